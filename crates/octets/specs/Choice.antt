@@ -1,0 +1,9 @@
+-- A choice by a test, as the standards' pseudocode writes it.
+-- Assumes nothing.
+use mathlib.Core.Bool.{Bool, true, false}
+
+infixr 3 if_then_else_
+
+abbrev pub if_then_else_ : {A : Type 0} → Bool → A → A → A
+if_then_else_ true a b = a
+if_then_else_ false a b = b

@@ -1,0 +1,1 @@
+// Strings of bytes: the words that every crate uses.

@@ -1,0 +1,13 @@
+-- `x_times` meets its contract: the code is the definition.
+-- Assumes nothing.
+use borrow.Author.Needs.{needs}
+use Rattle.sbox.specs.Field.{xTimes}
+use Rattle.sbox.proofs.x_times.Statement.{statement}
+use Rattle.sbox.proofs.x_times.Tie as tie
+
+returns : tie.Need-returns
+unfolding xTimes
+returns c = search needs
+
+pub x-times-spec : {M : Type 1} → statement M
+x-times-spec = tie.close (tie.spec (λ c. search needs) returns)
