@@ -6,7 +6,6 @@ use lib.Bits.{bitXor}
 use lib.ListN.{getD, length, replicate}
 
 infixl 60 _⊕_ _xor_
-
 abbrev pub Bytes : Type 0
 Bytes = List ℕ
 

@@ -4,7 +4,6 @@ use Prim.Native.Nat.{ℕ, zero, suc, _*_, _/_, _%_}
 use Rattle.octets.specs.Bytes.{_⊕_}
 
 infixl 70 _•_
-
 -- 4.2: a times x, modulo m(x) = x^8 + x^4 + x^3 + x + 1, which is {01}{1b}
 unfoldable pub xTimes : ℕ → ℕ
 xTimes a = (a * 2 % 256) ⊕ (a / 128 % 2 * 0x1b)

@@ -3,7 +3,6 @@ mod tables;
 
 use tables::INV_SBOX;
 use tables::SBOX;
-
 ghost use mathlib.Core.Path.{_≡_};
 ghost use Rattle.sbox.specs.Field.{xTimes};
 ghost use Rattle.sbox.specs.SBox.{IsTable, sBox, invSBox};
