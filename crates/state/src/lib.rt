@@ -1,9 +1,12 @@
-// FIPS 197's State and the transformations of a round. The State is an array of columns, so s[c][r] is the standard's s_(r,c).
+// FIPS 197's State and the transformations of a round. The State is an array of columns: s[c][r] is the standard's s_(r,c).
 ghost use mathlib.Core.Path.{_≡_};
+ghost use Prim.Native.Nat.{ℕ};
+ghost use Rattle.octets.specs.Bytes.{_⊕_};
+ghost use Rattle.sbox.specs.Field.{_•_};
 ghost use Rattle.sbox.specs.SBox.{IsTable, sBox, invSBox};
-ghost use Rattle.state.specs.State.{stateOf, bytesOf};
+ghost use Rattle.state.specs.State.{stateOf, bytesOf, addWord};
 ghost use Rattle.state.specs.Transformations.{subWord, subBytes, shiftRows, mixColumn, mixColumns, addRoundKey};
-ghost use Rattle.state.specs.InvTransformations.{invShiftRows};
+ghost use Rattle.state.specs.InvTransformations.{invSubWord, invSubBytes, invShiftRows, invMixColumn, invMixColumns};
 
 pub fn state_of(input: [u8; 16]) -> [[u8; 4]; 4]
     ensures { λ s. ⌜ s ≡ stateOf input ⌝ }
@@ -25,6 +28,37 @@ pub fn bytes_of(s: [[u8; 4]; 4]) -> [u8; 16]
     ]
 }
 
+// The byte's entry: f b for each rule f that the table follows.
+fn look_up(table: &[u8; 256], b: u8) -> u8
+    ensures { λ r. ⌜ ((f : ℕ → ℕ) → IsTable f (now (table .entry)) → r ≡ f b) ⌝ }
+{
+    table[b as usize]
+}
+
+pub fn sub_word(table: &[u8; 256], a: [u8; 4]) -> [u8; 4]
+    requires { ⌜ IsTable sBox (now table) ⌝ }
+    ensures { λ r. ⌜ r ≡ subWord a ⌝ }
+{
+    [
+        look_up(table, a[0]),
+        look_up(table, a[1]),
+        look_up(table, a[2]),
+        look_up(table, a[3]),
+    ]
+}
+
+pub fn sub_bytes(table: &[u8; 256], s: [[u8; 4]; 4]) -> [[u8; 4]; 4]
+    requires { ⌜ IsTable sBox (now table) ⌝ }
+    ensures { λ r. ⌜ r ≡ subBytes s ⌝ }
+{
+    [
+        sub_word(table, s[0]),
+        sub_word(table, s[1]),
+        sub_word(table, s[2]),
+        sub_word(table, s[3]),
+    ]
+}
+
 pub fn shift_rows(s: [[u8; 4]; 4]) -> [[u8; 4]; 4]
     ensures { λ r. ⌜ r ≡ shiftRows s ⌝ }
 {
@@ -36,7 +70,147 @@ pub fn shift_rows(s: [[u8; 4]; 4]) -> [[u8; 4]; 4]
     ]
 }
 
-fn add_word(a: [u8; 4], b: [u8; 4]) -> [u8; 4]
+// One row of the matrix serves all four: each is the one above, turned.
+fn mix_row(a: u8, b: u8, c: u8, d: u8) -> u8
+    ensures { λ r. ⌜ r ≡ 2 • a ⊕ 3 • b ⊕ c ⊕ d ⌝ }
+{
+    sbox::x_times(a) ^ (sbox::x_times(b) ^ b) ^ c ^ d
+}
+
+fn mix_column(s: [u8; 4]) -> [u8; 4]
+    ensures { λ r. ⌜ r ≡ mixColumn s ⌝ }
+{
+    [
+        mix_row(s[0], s[1], s[2], s[3]),
+        mix_row(s[1], s[2], s[3], s[0]),
+        mix_row(s[2], s[3], s[0], s[1]),
+        mix_row(s[3], s[0], s[1], s[2]),
+    ]
+}
+
+pub fn mix_columns(s: [[u8; 4]; 4]) -> [[u8; 4]; 4]
+    ensures { λ r. ⌜ r ≡ mixColumns s ⌝ }
+{
+    [
+        mix_column(s[0]),
+        mix_column(s[1]),
+        mix_column(s[2]),
+        mix_column(s[3]),
+    ]
+}
+
+pub fn add_word(a: [u8; 4], b: [u8; 4]) -> [u8; 4]
+    ensures { λ r. ⌜ r ≡ addWord a b ⌝ }
 {
     [a[0] ^ b[0], a[1] ^ b[1], a[2] ^ b[2], a[3] ^ b[3]]
+}
+
+pub fn add_round_key(s: [[u8; 4]; 4], k: [[u8; 4]; 4]) -> [[u8; 4]; 4]
+    ensures { λ r. ⌜ r ≡ addRoundKey s k ⌝ }
+{
+    [
+        add_word(s[0], k[0]),
+        add_word(s[1], k[1]),
+        add_word(s[2], k[2]),
+        add_word(s[3], k[3]),
+    ]
+}
+
+pub fn inv_shift_rows(s: [[u8; 4]; 4]) -> [[u8; 4]; 4]
+    ensures { λ r. ⌜ r ≡ invShiftRows s ⌝ }
+{
+    [
+        [s[0][0], s[3][1], s[2][2], s[1][3]],
+        [s[1][0], s[0][1], s[3][2], s[2][3]],
+        [s[2][0], s[1][1], s[0][2], s[3][3]],
+        [s[3][0], s[2][1], s[1][2], s[0][3]],
+    ]
+}
+
+fn inv_sub_word(table: &[u8; 256], a: [u8; 4]) -> [u8; 4]
+    requires { ⌜ IsTable invSBox (now table) ⌝ }
+    ensures { λ r. ⌜ r ≡ invSubWord a ⌝ }
+{
+    [
+        look_up(table, a[0]),
+        look_up(table, a[1]),
+        look_up(table, a[2]),
+        look_up(table, a[3]),
+    ]
+}
+
+pub fn inv_sub_bytes(table: &[u8; 256], s: [[u8; 4]; 4]) -> [[u8; 4]; 4]
+    requires { ⌜ IsTable invSBox (now table) ⌝ }
+    ensures { λ r. ⌜ r ≡ invSubBytes s ⌝ }
+{
+    [
+        inv_sub_word(table, s[0]),
+        inv_sub_word(table, s[1]),
+        inv_sub_word(table, s[2]),
+        inv_sub_word(table, s[3]),
+    ]
+}
+
+fn times_09(a: u8) -> u8
+    ensures { λ r. ⌜ r ≡ 0x09 • a ⌝ }
+{
+    let a2 = sbox::x_times(a);
+    let a4 = sbox::x_times(a2);
+    let a8 = sbox::x_times(a4);
+    a8 ^ a
+}
+
+fn times_0b(a: u8) -> u8
+    ensures { λ r. ⌜ r ≡ 0x0b • a ⌝ }
+{
+    let a2 = sbox::x_times(a);
+    let a4 = sbox::x_times(a2);
+    let a8 = sbox::x_times(a4);
+    a8 ^ a2 ^ a
+}
+
+fn times_0d(a: u8) -> u8
+    ensures { λ r. ⌜ r ≡ 0x0d • a ⌝ }
+{
+    let a2 = sbox::x_times(a);
+    let a4 = sbox::x_times(a2);
+    let a8 = sbox::x_times(a4);
+    a8 ^ a4 ^ a
+}
+
+fn times_0e(a: u8) -> u8
+    ensures { λ r. ⌜ r ≡ 0x0e • a ⌝ }
+{
+    let a2 = sbox::x_times(a);
+    let a4 = sbox::x_times(a2);
+    let a8 = sbox::x_times(a4);
+    a8 ^ a4 ^ a2
+}
+
+fn inv_mix_row(a: u8, b: u8, c: u8, d: u8) -> u8
+    ensures { λ r. ⌜ r ≡ 0x0e • a ⊕ 0x0b • b ⊕ 0x0d • c ⊕ 0x09 • d ⌝ }
+{
+    times_0e(a) ^ times_0b(b) ^ times_0d(c) ^ times_09(d)
+}
+
+fn inv_mix_column(s: [u8; 4]) -> [u8; 4]
+    ensures { λ r. ⌜ r ≡ invMixColumn s ⌝ }
+{
+    [
+        inv_mix_row(s[0], s[1], s[2], s[3]),
+        inv_mix_row(s[1], s[2], s[3], s[0]),
+        inv_mix_row(s[2], s[3], s[0], s[1]),
+        inv_mix_row(s[3], s[0], s[1], s[2]),
+    ]
+}
+
+pub fn inv_mix_columns(s: [[u8; 4]; 4]) -> [[u8; 4]; 4]
+    ensures { λ r. ⌜ r ≡ invMixColumns s ⌝ }
+{
+    [
+        inv_mix_column(s[0]),
+        inv_mix_column(s[1]),
+        inv_mix_column(s[2]),
+        inv_mix_column(s[3]),
+    ]
 }

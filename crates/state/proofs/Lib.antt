@@ -1,0 +1,5 @@
+pub mod XTimes
+
+pub mod Sums
+pub mod MixColumn
+pub mod Undo

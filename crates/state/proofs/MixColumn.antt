@@ -1,0 +1,88 @@
+-- The products of MixColumns and InvMixColumns as the code makes them, by repeated xTimes; and InvMixColumns undoes MixColumns.
+-- Assumes nothing.
+use mathlib.Core.Path.{_≡_, refl, sym, ap, _∙_}
+use mathlib.Core.Bool.{Bool}
+use mathlib.Core.List.{List, [], _∷_}
+use Prim.Native.Nat.{ℕ, zero, suc, _/_, _%_}
+use lib.Bits.{xor-comm}
+use lib.Dec.{eqb}
+use lib.ListN.{getD, length}
+use Rattle.octets.specs.Bytes.{_⊕_}
+use Rattle.octets.specs.Choice.{if_then_else_}
+use Rattle.octets.proofs.Four.{four}
+use Rattle.octets.proofs.Tabulate.{tabulate-getD}
+use Rattle.octets.proofs.Xor.{xor-assoc}
+use Rattle.sbox.specs.Field.{xTimes, product, _•_}
+use Rattle.state.specs.State.{Word}
+use Rattle.state.specs.Transformations.{mixColumn}
+use Rattle.state.specs.InvTransformations.{invMixColumn}
+use Rattle.state.proofs.Sums.{Sum, byte, none, plus, byX, value, equal}
+
+-- ---- products
+
+abbrev products : ℕ → ℕ → Sum → Sum
+products zero b a = none
+products (suc n) b a = plus (if eqb (b % 2) 1 then a else none) (products n (b / 2) (byX a))
+
+-- b • a
+abbrev by : ℕ → Sum → Sum
+by b a = products 8 b a
+
+-- the one byte a
+abbrev one : ℕ → ℕ → ℕ
+one a i = a
+
+pub times-02 : (a : ℕ) → xTimes a ≡ 2 • a
+unfolding product _•_
+times-02 a = equal (one a) 1 (byX (byte 0)) (by 2 (byte 0)) tt
+
+pub times-03 : (a : ℕ) → xTimes a ⊕ a ≡ 3 • a
+unfolding product _•_
+times-03 a = equal (one a) 1 (plus (byX (byte 0)) (byte 0)) (by 3 (byte 0)) tt
+
+abbrev byXXX : Sum
+byXXX = byX (byX (byX (byte 0)))
+
+pub times-09 : (a : ℕ) → xTimes (xTimes (xTimes a)) ⊕ a ≡ 0x09 • a
+unfolding product _•_
+times-09 a = equal (one a) 1 (plus byXXX (byte 0)) (by 0x09 (byte 0)) tt
+
+pub times-0b : (a : ℕ) → xTimes (xTimes (xTimes a)) ⊕ xTimes a ⊕ a ≡ 0x0b • a
+unfolding product _•_
+times-0b a = equal (one a) 1 (plus (plus byXXX (byX (byte 0))) (byte 0)) (by 0x0b (byte 0)) tt
+
+pub times-0d : (a : ℕ) → xTimes (xTimes (xTimes a)) ⊕ xTimes (xTimes a) ⊕ a ≡ 0x0d • a
+unfolding product _•_
+times-0d a = equal (one a) 1 (plus (plus byXXX (byX (byX (byte 0)))) (byte 0)) (by 0x0d (byte 0)) tt
+
+pub times-0e : (a : ℕ) → xTimes (xTimes (xTimes a)) ⊕ xTimes (xTimes a) ⊕ xTimes a ≡ 0x0e • a
+unfolding product _•_
+times-0e a = equal (one a) 1 (plus (plus byXXX (byX (byX (byte 0)))) (byX (byte 0))) (by 0x0e (byte 0)) tt
+
+-- ---- a row of the matrix is the row above turned right, so one sum serves all rows
+
+pub turned : (a b c d : ℕ) → a ⊕ b ⊕ c ⊕ d ≡ d ⊕ a ⊕ b ⊕ c
+turned a b c d = xor-comm (a ⊕ b ⊕ c) d ∙ sym (xor-assoc d (a ⊕ b) c) ∙ ap (λ (x : ℕ). x ⊕ c) (sym (xor-assoc d a b))
+
+-- ---- InvMixColumns undoes MixColumns
+
+abbrev row : ℕ → ℕ → ℕ → ℕ → Sum → Sum → Sum → Sum → Sum
+row k0 k1 k2 k3 a b c d = plus (plus (plus (by k0 a) (by k1 b)) (by k2 c)) (by k3 d)
+
+abbrev mixed : (Sum → Sum → Sum → Sum → Sum) → Sum
+mixed f = 
+    f (plus (plus (plus (by 2 (byte 0)) (by 3 (byte 1))) (byte 2)) (byte 3))
+    (plus (plus (plus (byte 0) (by 2 (byte 1))) (by 3 (byte 2))) (byte 3))
+    (plus (plus (plus (byte 0) (byte 1)) (by 2 (byte 2))) (by 3 (byte 3)))
+    (plus (plus (plus (by 3 (byte 0)) (byte 1)) (byte 2)) (by 2 (byte 3)))
+
+pub invMixColumn-mixColumn : (s : Word) → length s ≡ 4 → invMixColumn (mixColumn s) ≡ s
+unfolding product _•_ mixColumn invMixColumn
+invMixColumn-mixColumn s h =
+    let ρ : ℕ → ℕ = λ i. getD s i 0 in
+    four
+    (equal ρ 4 (mixed (row 0x0e 0x0b 0x0d 0x09)) (byte 0) tt)
+    (equal ρ 4 (mixed (row 0x09 0x0e 0x0b 0x0d)) (byte 1) tt)
+    (equal ρ 4 (mixed (row 0x0d 0x09 0x0e 0x0b)) (byte 2) tt)
+    (equal ρ 4 (mixed (row 0x0b 0x0d 0x09 0x0e)) (byte 3) tt)
+    ∙ tabulate-getD 0 4 s h

@@ -1,0 +1,120 @@
+-- Each inverse transformation undoes its transformation on every State, and each transformation makes a State of a State.
+-- The cipher's round trip uses these. Assumes nothing.
+use mathlib.Core.Path.{_≡_, refl, sym, ap, _∙_, subst}
+use mathlib.Core.List.{List, []}
+use Prim.Native.Nat.{ℕ, zero, suc, _+_, _*_, _%_, _<_}
+use native.Mathlib.Nat.{mod-lt, zero-lt-suc}
+use native.Mathlib.Omega.{arith}
+use lib.Dec.{lit<}
+use lib.ListN.{getD, length}
+use Rattle.octets.specs.Bytes.{Bytes, IsBytes, _⊕_, tabulate}
+use Rattle.octets.proofs.Tabulate.{tabulate-getD, tabulate-ext, getD-tabulate, length-tabulate}
+use Rattle.octets.proofs.Xor.{xor-undo}
+use Rattle.sbox.specs.Field.{_•_}
+use Rattle.sbox.specs.SBox.{sBox, invSBox}
+use Rattle.sbox.proofs.TableRule.{invSBox-sBox, sBox-lt}
+use Rattle.state.specs.State.{Word, State, at, state, stateOf, bytesOf, IsState}
+use Rattle.state.specs.Transformations.{subBytes, shiftRows, mixColumn, mixColumns, addRoundKey}
+use Rattle.state.specs.InvTransformations.{invSubBytes, invShiftRows, invMixColumn, invMixColumns}
+use Rattle.state.proofs.MixColumn.{invMixColumn-mixColumn}
+use Rattle.state.proofs.XTimes.{xor-byte, times-byte}
+
+-- ---- a State by its bytes
+
+state-ext : {f g : ℕ → ℕ → ℕ} → ((r c : ℕ) → r < 4 → c < 4 → f r c ≡ g r c) → state f ≡ state g
+state-ext h = tabulate-ext 4 (λ c hc. tabulate-ext 4 (λ r hr. h r c hr hc))
+
+state-at : (s : State) → IsState s → state (at s) ≡ s
+state-at s h = tabulate-ext 4 (λ c hc. tabulate-getD 0 4 (getD s c []) (h .rows c hc)) ∙ tabulate-getD [] 4 s (h .columns)
+
+column : (f : ℕ → Word) (c : ℕ) → c < 4 → getD (tabulate 4 f) c [] ≡ f c
+column f c hc = getD-tabulate [] 4 f c hc
+
+at-state : (f : ℕ → ℕ → ℕ) (r c : ℕ) → r < 4 → c < 4 → at (state f) r c ≡ f r c
+at-state f r c hr hc =
+    ap (λ (w : Word). getD w r 0) (column (λ i. tabulate 4 (λ j. f j i)) c hc) ∙ getD-tabulate 0 4 (λ j. f j c) r hr
+
+pub state-is : (f : ℕ → ℕ → ℕ) → ((r c : ℕ) → r < 4 → c < 4 → f r c < 256) → IsState (state f)
+state-is f h =
+    record {
+      columns = refl;
+      rows = λ c hc. ap length (column (λ i. tabulate 4 (λ j. f j i)) c hc);
+      bytes = λ r c hr hc. subst (λ (b : ℕ). b < 256) (sym (at-state f r c hr hc)) (h r c hr hc);
+    }
+
+-- ---- SubBytes
+
+pub invSubBytes-subBytes : (s : State) → IsState s → invSubBytes (subBytes s) ≡ s
+invSubBytes-subBytes s h = state-ext (λ r c hr hc. invSBox-sBox (at s r c) (h .bytes r c hr hc)) ∙ state-at s h
+
+pub subBytes-is : (s : State) → IsState s → IsState (subBytes s)
+subBytes-is s h = state-is (λ r c. sBox (at s r c)) (λ r c hr hc. sBox-lt (at s r c) (h .bytes r c hr hc))
+
+-- ---- ShiftRows
+
+pub invShiftRows-shiftRows : (s : State) → IsState s → invShiftRows (shiftRows s) ≡ s
+invShiftRows-shiftRows s h = state-at s h
+
+pub shiftRows-is : (s : State) → IsState s → IsState (shiftRows s)
+shiftRows-is s h =
+    state-is (λ r c. at s r ((c + r) % 4)) (λ r c hr hc. h .bytes r ((c + r) % 4) hr (mod-lt (c + r) (zero-lt-suc 3)))
+
+-- ---- MixColumns
+
+pub invMixColumns-mixColumns : (s : State) → IsState s → invMixColumns (mixColumns s) ≡ s
+invMixColumns-mixColumns s h =
+    tabulate-ext 4 (λ c hc. invMixColumn-mixColumn (getD s c []) (h .rows c hc)) ∙ tabulate-getD [] 4 s (h .columns)
+
+mixColumn-byte : (a : Word) → ((r : ℕ) → r < 4 → getD a r 0 < 256) → (r : ℕ) → r < 4 → getD (mixColumn a) r 0 < 256
+unfolding mixColumn
+mixColumn-byte a h r hr = row r hr
+  where
+    a0 : ℕ
+    a0 = getD a 0 0
+    a1 : ℕ
+    a1 = getD a 1 0
+    a2 : ℕ
+    a2 = getD a 2 0
+    a3 : ℕ
+    a3 = getD a 3 0
+    sum : (w x y z : ℕ) → w < 256 → x < 256 → y < 256 → z < 256 → w ⊕ x ⊕ y ⊕ z < 256
+    sum w x y z hw hx hy hz = xor-byte (w ⊕ x ⊕ y) z (xor-byte (w ⊕ x) y (xor-byte w x hw hx) hy) hz
+    row : (r : ℕ) → r < 4 → getD (mixColumn a) r 0 < 256
+    row zero k = sum (2 • a0) (3 • a1) a2 a3 (times-byte 2 a0 (h 0 (lit< tt))) (times-byte 3 a1 (h 1 (lit< tt))) (h 2 (lit< tt)) (h 3 (lit< tt))
+    row (suc zero) k = sum a0 (2 • a1) (3 • a2) a3 (h 0 (lit< tt)) (times-byte 2 a1 (h 1 (lit< tt))) (times-byte 3 a2 (h 2 (lit< tt))) (h 3 (lit< tt))
+    row (suc (suc zero)) k = sum a0 a1 (2 • a2) (3 • a3) (h 0 (lit< tt)) (h 1 (lit< tt)) (times-byte 2 a2 (h 2 (lit< tt))) (times-byte 3 a3 (h 3 (lit< tt)))
+    row (suc (suc (suc zero))) k = sum (3 • a0) a1 a2 (2 • a3) (times-byte 3 a0 (h 0 (lit< tt))) (h 1 (lit< tt)) (h 2 (lit< tt)) (times-byte 2 a3 (h 3 (lit< tt)))
+    row (suc (suc (suc (suc n)))) k = let z : ⊥ = omega arith in absurd z
+
+pub mixColumns-is : (s : State) → IsState s → IsState (mixColumns s)
+unfolding mixColumn
+mixColumns-is s h =
+    record {
+      columns = refl;
+      rows = λ c hc. ap length (column (λ i. mixColumn (getD s i [])) c hc);
+      bytes =
+          λ r c hr hc.
+          subst (λ (w : Word). getD w r 0 < 256) (sym (column (λ i. mixColumn (getD s i [])) c hc))
+          (mixColumn-byte (getD s c []) (λ i k. h .bytes i c k hc) r hr);
+    }
+
+-- ---- AddRoundKey is its own inverse
+
+pub addRoundKey-twice : (s k : State) → IsState s → addRoundKey (addRoundKey s k) k ≡ s
+addRoundKey-twice s k h = state-ext (λ r c hr hc. xor-undo (at s r c) (at k r c)) ∙ state-at s h
+
+pub addRoundKey-is : (s k : State) → IsState s → IsState k → IsState (addRoundKey s k)
+addRoundKey-is s k h g =
+    state-is (λ r c. at s r c ⊕ at k r c)
+    (λ r c hr hc. xor-byte (at s r c) (at k r c) (h .bytes r c hr hc) (g .bytes r c hr hc))
+
+-- ---- the State and the bytes of a block
+
+pub bytesOf-stateOf : (b : Bytes) → length b ≡ 16 → bytesOf (stateOf b) ≡ b
+bytesOf-stateOf b h = tabulate-getD 0 16 b h
+
+pub stateOf-bytesOf : (s : State) → IsState s → stateOf (bytesOf s) ≡ s
+stateOf-bytesOf s h = state-at s h
+
+pub stateOf-is : (b : Bytes) → length b ≡ 16 → IsBytes b → IsState (stateOf b)
+stateOf-is b e h = state-is (λ r c. getD b (r + 4 * c) 0) (λ r c hr hc. h (r + 4 * c) (omega (arith, e)))
