@@ -1,0 +1,20 @@
+-- FIPS 197, 5.1: Cipher, with nr rounds and the key schedule w. Assumes nothing.
+use mathlib.Core.List.{List, []}
+use Prim.Native.Nat.{ℕ, zero, suc, _+_, _*_, _-_}
+use lib.ListN.{getD}
+use Rattle.octets.specs.Bytes.{tabulate}
+use Rattle.state.specs.State.{Word, State}
+use Rattle.state.specs.Transformations.{subBytes, shiftRows, mixColumns, addRoundKey}
+
+-- the round key of a round: w[4 * round .. 4 * round + 3]
+abbrev pub roundKey : List Word → ℕ → State
+roundKey w round = tabulate 4 (λ c. getD w (4 * round + c) [])
+
+-- the State s after rounds 1 to n, of those before the last
+unfoldable pub rounds : List Word → State → ℕ → State
+rounds w s zero = s
+rounds w s (suc n) = addRoundKey (mixColumns (shiftRows (subBytes (rounds w s n)))) (roundKey w (suc n))
+
+abbrev pub cipher : ℕ → List Word → State → State
+cipher nr w s =
+    addRoundKey (shiftRows (subBytes (rounds w (addRoundKey s (roundKey w 0)) (nr - 1)))) (roundKey w nr)

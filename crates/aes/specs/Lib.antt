@@ -1,0 +1,5 @@
+pub mod KeySizes
+pub mod KeyExpansion
+pub mod Cipher
+pub mod InvCipher
+pub mod Aes

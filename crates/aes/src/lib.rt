@@ -1,0 +1,178 @@
+// AES with 128- and 256-bit keys (FIPS 197). The key schedule is made once and lent: 60 words, of which a 128-bit key uses 44.
+ghost use mathlib.Core.Path.{_≡_};
+ghost use mathlib.Core.List.{[], _++_};
+ghost use Prim.Native.Nat.{_+_, _*_, _-_, _/_, _%_, _<_, _≤_};
+ghost use lib.ListN.{length, getD, take};
+ghost use Rattle.sbox.specs.SBox.{IsTable, sBox, invSBox};
+ghost use Rattle.state.specs.State.{word, addWord};
+ghost use Rattle.aes.specs.KeySizes.{nk, nr};
+ghost use Rattle.aes.specs.KeyExpansion.{rotWord, rcon, temp, keyWord, nextWord, schedule};
+ghost use Rattle.aes.specs.Cipher.{roundKey, rounds, cipher};
+ghost use Rattle.aes.specs.InvCipher.{invRounds, invCipher};
+ghost use Rattle.aes.specs.Aes.{ciph, invCiph};
+
+pub enum KeySize {
+    Aes128,
+    Aes256,
+}
+
+impl KeySize {
+    // Nk.
+    pub fn words(self) -> usize
+        ensures { λ r. ⌜ r ≡ nk self ⌝ }
+    {
+        match self {
+            KeySize::Aes128 => 4,
+            KeySize::Aes256 => 8,
+        }
+    }
+
+    // Nr.
+    pub fn rounds(self) -> usize
+        ensures { λ r. ⌜ r ≡ nr self ⌝ }
+    {
+        match self {
+            KeySize::Aes128 => 10,
+            KeySize::Aes256 => 14,
+        }
+    }
+}
+
+// FIPS 197, Table 5: the first byte of each round constant, from Rcon[1] on.
+const RCON: [u8; 10] = [0x01, 0x02, 0x04, 0x08, 0x10, 0x20, 0x40, 0x80, 0x1b, 0x36];
+
+fn round_constant(j: usize) -> [u8; 4]
+    requires { ⌜ (1 ≤ j) × (j ≤ 10) ⌝ }
+    ensures { λ r. ⌜ r ≡ rcon j ⌝ }
+{
+    [RCON[j - 1], 0, 0, 0]
+}
+
+fn rot_word(a: [u8; 4]) -> [u8; 4]
+    ensures { λ r. ⌜ r ≡ rotWord a ⌝ }
+{
+    [a[1], a[2], a[3], a[0]]
+}
+
+fn key_word(key: &[u8; 32], i: usize) -> [u8; 4]
+    requires { ⌜ i < 8 ⌝ }
+    ensures { λ r. ⌜ r ≡ keyWord (now (key .entry)) i ⌝ }
+{
+    let j = 4 * i;
+    [key[j], key[j + 1], key[j + 2], key[j + 3]]
+}
+
+pub fn round_key(w: &[[u8; 4]; 60], round: usize) -> [[u8; 4]; 4]
+    requires { ⌜ round < 15 ⌝ }
+    ensures { λ k. ⌜ k ≡ roundKey (now (w .entry)) round ⌝ }
+{
+    let i = 4 * round;
+    [w[i], w[i + 1], w[i + 2], w[i + 3]]
+}
+
+fn temp_word(table: &[u8; 256], n: usize, i: usize, t: [u8; 4]) -> [u8; 4]
+    requires { ⌜ IsTable sBox (now table) ⌝ }
+    requires { ⌜ (4 ≤ n) × (n ≤ i) × (i < 4 * n + 28) ⌝ }
+    ensures { λ r. ⌜ r ≡ temp n i t ⌝ }
+{
+    let m = i % n;
+    if m == 0 {
+        let j = i / n;
+        return state::add_word(state::sub_word(table, rot_word(t)), round_constant(j));
+    }
+    if 6 < n {
+        if m == 4 {
+            return state::sub_word(table, t);
+        }
+    }
+    t
+}
+
+fn next_word(table: &[u8; 256], n: usize, key: &[u8; 32], w: &[[u8; 4]; 60], i: usize) -> [u8; 4]
+    requires { ⌜ IsTable sBox (now table) ⌝ }
+    requires { ⌜ (4 ≤ n) × (n ≤ 8) × (i < 4 * n + 28) ⌝ }
+    ensures { λ r. ⌜ r ≡ nextWord n (now (key .entry)) (now (w .entry)) i ⌝ }
+{
+    if i < n {
+        return key_word(key, i);
+    }
+    state::add_word(w[i - n], temp_word(table, n, i, w[i - 1]))
+}
+
+// The words that the rounds do not use stay zero.
+pub fn key_expansion(size: KeySize, key: [u8; 32]) -> [[u8; 4]; 60]
+    ensures { λ w. ⌜ w ≡ schedule size key ⌝ }
+{
+    let table = sbox::sbox();
+    let n = size.words();
+    let end = 4 * size.rounds() + 4;
+    let mut w = [[0u8; 4]; 60];
+    let mut i: usize = 0;
+    while i < end {
+        w[i] = next_word(&table, n, &key, &w, i);
+        i += 1;
+    }
+    w
+}
+
+fn middle_rounds(w: &[[u8; 4]; 60], s: [[u8; 4]; 4], n: usize, table: &[u8; 256]) -> [[u8; 4]; 4]
+    requires { ⌜ n < 14 ⌝ }
+    requires { ⌜ IsTable sBox (now table) ⌝ }
+    ensures { λ r. ⌜ r ≡ rounds (now (w .entry)) s n ⌝ }
+{
+    let mut x = s;
+    let mut round: usize = 0;
+    while round < n {
+        round += 1;
+        let mixed = state::mix_columns(state::shift_rows(state::sub_bytes(table, x)));
+        x = state::add_round_key(mixed, round_key(w, round));
+    }
+    x
+}
+
+pub fn cipher(size: KeySize, w: &[[u8; 4]; 60], s: [[u8; 4]; 4]) -> [[u8; 4]; 4]
+    ensures { λ r. ⌜ r ≡ cipher (nr size) (now (w .entry)) s ⌝ }
+{
+    let table = sbox::sbox();
+    let last = size.rounds();
+    let first = state::add_round_key(s, round_key(w, 0));
+    let x = middle_rounds(w, first, last - 1, &table);
+    state::add_round_key(state::shift_rows(state::sub_bytes(&table, x)), round_key(w, last))
+}
+
+fn inv_middle_rounds(w: &[[u8; 4]; 60], s: [[u8; 4]; 4], n: usize, table: &[u8; 256]) -> [[u8; 4]; 4]
+    requires { ⌜ n < 14 ⌝ }
+    requires { ⌜ IsTable invSBox (now table) ⌝ }
+    ensures { λ r. ⌜ r ≡ invRounds (now (w .entry)) s n ⌝ }
+{
+    let mut x = s;
+    let mut round = n;
+    while 0 < round {
+        let substituted = state::inv_sub_bytes(table, state::inv_shift_rows(x));
+        x = state::inv_mix_columns(state::add_round_key(substituted, round_key(w, round)));
+        round -= 1;
+    }
+    x
+}
+
+pub fn inv_cipher(size: KeySize, w: &[[u8; 4]; 60], s: [[u8; 4]; 4]) -> [[u8; 4]; 4]
+    ensures { λ r. ⌜ r ≡ invCipher (nr size) (now (w .entry)) s ⌝ }
+{
+    let table = sbox::inv_sbox();
+    let last = size.rounds();
+    let first = state::add_round_key(s, round_key(w, last));
+    let x = inv_middle_rounds(w, first, last - 1, &table);
+    state::add_round_key(state::inv_sub_bytes(&table, state::inv_shift_rows(x)), round_key(w, 0))
+}
+
+pub fn encrypt_block(size: KeySize, w: &[[u8; 4]; 60], block: [u8; 16]) -> [u8; 16]
+    ensures { λ r. ⌜ r ≡ ciph size (now (w .entry)) block ⌝ }
+{
+    state::bytes_of(cipher(size, w, state::state_of(block)))
+}
+
+pub fn decrypt_block(size: KeySize, w: &[[u8; 4]; 60], block: [u8; 16]) -> [u8; 16]
+    ensures { λ r. ⌜ r ≡ invCiph size (now (w .entry)) block ⌝ }
+{
+    state::bytes_of(inv_cipher(size, w, state::state_of(block)))
+}
