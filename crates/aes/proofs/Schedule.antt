@@ -1,17 +1,18 @@
 -- KeyExpansion, word by word: the round constants' rule, the cases of a word, and one more word in the array.
 -- Assumes nothing.
 use mathlib.Core.Path.{_≡_, refl, sym, ap, ap₂, _∙_}
-use mathlib.Core.Bool.{Bool, true, false}
+use mathlib.Core.Bool.{Bool}
 use mathlib.Core.List.{List, [], _∷_, _++_, append-assoc}
 use Prim.Native.Nat.{ℕ, zero, suc, _+_, _*_, _-_, _/_, _%_, _<_, _≤_}
 use native.Mathlib.Nat.{le-div-iff-mul-le, div-lt-iff-lt-mul}
 use native.Mathlib.Numerals.{add-one}
 use native.Mathlib.Omega.{arith}
-use borrow.Author.Tests.{eq-eqb, ne-eqb, lt-ltb, le-ltb, ltb-true, ltb-false}
-use lib.Dec.{eqb, eqb→eq, ltb}
+use borrow.Author.Tests.{eq-eqb, ne-eqb, lt-ltb, le-ltb}
+use lib.Dec.{eqb, eqb→eq}
 use lib.ListN.{getD, length, set, replicate, length-append, List·getD-append}
 use lib.Seq.{set-at}
 use Rattle.octets.specs.Bytes.{Bytes, zeros}
+use Rattle.octets.proofs.ByteStrings.{by-test}
 use Rattle.octets.proofs.Table.{at}
 use Rattle.sbox.specs.Field.{xTimes}
 use Rattle.state.specs.State.{Word, addWord}
@@ -66,13 +67,6 @@ length-words n key zero = refl
 length-words n key (suc i) =
     length-append (words n key i) (nextWord n key (words n key i) i ∷ []) ∙ ap (λ (k : ℕ). k + 1) (length-words n key i)
     ∙ add-one i
-
-by-test : {P : Type 0} (a b : ℕ) → (a < b → P) → (b ≤ a → P) → P
-by-test {P} a b f g = go (ltb a b) refl
-  where
-    go : (t : Bool) → ltb a b ≡ t → P
-    go true e = f (ltb-true a b e)
-    go false e = g (ltb-false a b e)
 
 -- word i is made of the words before it alone
 next-prefix : (n : ℕ) (key : Bytes) (p q : List Word) (i : ℕ) → 4 ≤ n → length p ≡ i

@@ -137,10 +137,18 @@ pub fn cipher(size: KeySize, w: &[[u8; 4]; 60], s: [[u8; 4]; 4]) -> [[u8; 4]; 4]
     let last = size.rounds();
     let first = state::add_round_key(s, round_key(w, 0));
     let x = middle_rounds(w, first, last - 1, &table);
-    state::add_round_key(state::shift_rows(state::sub_bytes(&table, x)), round_key(w, last))
+    state::add_round_key(
+        state::shift_rows(state::sub_bytes(&table, x)),
+        round_key(w, last),
+    )
 }
 
-fn inv_middle_rounds(w: &[[u8; 4]; 60], s: [[u8; 4]; 4], n: usize, table: &[u8; 256]) -> [[u8; 4]; 4]
+fn inv_middle_rounds(
+    w: &[[u8; 4]; 60],
+    s: [[u8; 4]; 4],
+    n: usize,
+    table: &[u8; 256],
+) -> [[u8; 4]; 4]
     requires { ⌜ n < 14 ⌝ }
     requires { ⌜ IsTable invSBox (now table) ⌝ }
     ensures { λ r. ⌜ r ≡ invRounds (now (w .entry)) s n ⌝ }
@@ -162,7 +170,10 @@ pub fn inv_cipher(size: KeySize, w: &[[u8; 4]; 60], s: [[u8; 4]; 4]) -> [[u8; 4]
     let last = size.rounds();
     let first = state::add_round_key(s, round_key(w, last));
     let x = inv_middle_rounds(w, first, last - 1, &table);
-    state::add_round_key(state::inv_sub_bytes(&table, state::inv_shift_rows(x)), round_key(w, 0))
+    state::add_round_key(
+        state::inv_sub_bytes(&table, state::inv_shift_rows(x)),
+        round_key(w, 0),
+    )
 }
 
 pub fn encrypt_block(size: KeySize, w: &[[u8; 4]; 60], block: [u8; 16]) -> [u8; 16]

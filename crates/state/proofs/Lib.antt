@@ -1,5 +1,4 @@
 pub mod XTimes
-
 pub mod Sums
 pub mod MixColumn
 pub mod Undo

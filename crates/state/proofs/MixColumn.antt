@@ -70,7 +70,7 @@ abbrev row : ℕ → ℕ → ℕ → ℕ → Sum → Sum → Sum → Sum → Sum
 row k0 k1 k2 k3 a b c d = plus (plus (plus (by k0 a) (by k1 b)) (by k2 c)) (by k3 d)
 
 abbrev mixed : (Sum → Sum → Sum → Sum → Sum) → Sum
-mixed f = 
+mixed f =
     f (plus (plus (plus (by 2 (byte 0)) (by 3 (byte 1))) (byte 2)) (byte 3))
     (plus (plus (plus (byte 0) (by 2 (byte 1))) (by 3 (byte 2))) (byte 3))
     (plus (plus (plus (byte 0) (byte 1)) (by 2 (byte 2))) (by 3 (byte 3)))

@@ -71,14 +71,19 @@ mixColumn-byte a h r hr = row r hr
   where
     a0 : ℕ
     a0 = getD a 0 0
+
     a1 : ℕ
     a1 = getD a 1 0
+
     a2 : ℕ
     a2 = getD a 2 0
+
     a3 : ℕ
     a3 = getD a 3 0
+
     sum : (w x y z : ℕ) → w < 256 → x < 256 → y < 256 → z < 256 → w ⊕ x ⊕ y ⊕ z < 256
     sum w x y z hw hx hy hz = xor-byte (w ⊕ x ⊕ y) z (xor-byte (w ⊕ x) y (xor-byte w x hw hx) hy) hz
+
     row : (r : ℕ) → r < 4 → getD (mixColumn a) r 0 < 256
     row zero k = sum (2 • a0) (3 • a1) a2 a3 (times-byte 2 a0 (h 0 (lit< tt))) (times-byte 3 a1 (h 1 (lit< tt))) (h 2 (lit< tt)) (h 3 (lit< tt))
     row (suc zero) k = sum a0 (2 • a1) (3 • a2) a3 (h 0 (lit< tt)) (times-byte 2 a1 (h 1 (lit< tt))) (times-byte 3 a2 (h 2 (lit< tt))) (h 3 (lit< tt))

@@ -47,7 +47,7 @@ xTimes-zero = refl
 pub xor-byte : (a b : ℕ) → a < 256 → b < 256 → a ⊕ b < 256
 xor-byte a b ha hb = xor-lt 8 a b ha hb
 
-xTimes-byte : (a : ℕ) → xTimes a < 256
+pub xTimes-byte : (a : ℕ) → xTimes a < 256
 unfolding xTimes
 xTimes-byte a =
     let high : a / 128 % 2 < 2 = mod-lt (a / 128) (zero-lt-suc 1) in

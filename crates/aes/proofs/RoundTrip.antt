@@ -1,0 +1,95 @@
+-- Decryption undoes encryption: InvCipher after Cipher, once over the number of rounds and the round keys; then AES for every
+-- key of either size and every block. Assumes nothing.
+use mathlib.Core.Path.{_≡_, refl, ap, _∙_}
+use mathlib.Core.List.{List}
+use Prim.Native.Nat.{ℕ, zero, suc, _-_, _≤_, zero-le}
+use native.Mathlib.Nat.{le-refl}
+use native.Mathlib.Omega.{arith}
+use lib.ListN.{length}
+use Rattle.octets.specs.Bytes.{Bytes, IsBytes}
+use Rattle.state.specs.State.{Word, State, stateOf, bytesOf, IsState}
+use Rattle.state.specs.Transformations.{subBytes, shiftRows, mixColumns, addRoundKey}
+use Rattle.state.specs.InvTransformations.{invShiftRows, invSubBytes, invMixColumns}
+use Rattle.state.proofs.Undo.{invSubBytes-subBytes, subBytes-is, invShiftRows-shiftRows, shiftRows-is, invMixColumns-mixColumns, mixColumns-is, addRoundKey-twice, addRoundKey-is, bytesOf-stateOf, stateOf-bytesOf, stateOf-is}
+use Rattle.aes.specs.KeySizes.{nr}
+use Rattle.aes.specs.KeyExpansion.{schedule}
+use Rattle.aes.specs.Cipher.{roundKey, rounds, cipher}
+use Rattle.aes.specs.InvCipher.{invRounds, invCipher}
+use Rattle.aes.specs.Aes.{ciph, invCiph, aes, invAes}
+use Rattle.aes.specs.declared.KeySize.{KeySize}
+use Rattle.aes.proofs.RoundKeys.{roundKey-is}
+
+-- SubBytes and ShiftRows, undone together
+undone : (x : State) → IsState x → invSubBytes (invShiftRows (shiftRows (subBytes x))) ≡ x
+undone x h = ap invSubBytes (invShiftRows-shiftRows (subBytes x) (subBytes-is x h)) ∙ invSubBytes-subBytes x h
+
+substituted-is : (x : State) → IsState x → IsState (shiftRows (subBytes x))
+substituted-is x h = shiftRows-is (subBytes x) (subBytes-is x h)
+
+module _ (w : List Word) (s : State) (hs : IsState s) where
+  rounds-is : (n : ℕ) → ((r : ℕ) → r ≤ n → IsState (roundKey w r)) → IsState (rounds w s n)
+  unfolding rounds
+  rounds-is zero hk = hs
+  rounds-is (suc n) hk =
+      let x : State = shiftRows (subBytes (rounds w s n)) in
+      addRoundKey-is (mixColumns x) (roundKey w (suc n))
+      (mixColumns-is x (substituted-is (rounds w s n) (rounds-is n (λ r k. hk r (omega arith))))) (hk (suc n) (le-refl (suc n)))
+
+  rounds-undone : (n : ℕ) → ((r : ℕ) → r ≤ n → IsState (roundKey w r))
+      → invSubBytes (invShiftRows (invRounds w (shiftRows (subBytes (rounds w s n))) n)) ≡ s
+  unfolding rounds invRounds
+  rounds-undone zero hk = undone s hs
+  rounds-undone (suc n) hk =
+      let hn : (r : ℕ) → r ≤ n → IsState (roundKey w r) = λ r k. hk r (omega arith) in
+      let x : State = shiftRows (subBytes (rounds w s n)) in
+      let hx : IsState x = substituted-is (rounds w s n) (rounds-is n hn) in
+      let k : State = roundKey w (suc n) in
+      ap (λ (z : State). invSubBytes (invShiftRows (invRounds w z n)))
+      (ap (λ (z : State). invMixColumns (addRoundKey z k)) (undone (rounds w s (suc n)) (rounds-is (suc n) hk))
+      ∙ ap invMixColumns (addRoundKey-twice (mixColumns x) k (mixColumns-is x hx))
+      ∙ invMixColumns-mixColumns x hx)
+      ∙ rounds-undone n hn
+
+module _ (n : ℕ) (w : List Word) (s : State) (hs : IsState s) (hk : (r : ℕ) → r ≤ n → IsState (roundKey w r)) where
+  first : State
+  first = addRoundKey s (roundKey w 0)
+
+  first-is : IsState first
+  unfolding first
+  first-is = addRoundKey-is s (roundKey w 0) hs (hk 0 zero-le)
+
+  before : (r : ℕ) → r ≤ n - 1 → IsState (roundKey w r)
+  before r k = hk r (omega arith)
+
+  last : State
+  last = shiftRows (subBytes (rounds w first (n - 1)))
+
+  last-is : IsState last
+  unfolding last
+  last-is = substituted-is (rounds w first (n - 1)) (rounds-is w first first-is (n - 1) before)
+
+  pub cipher-is : IsState (cipher n w s)
+  unfolding first last
+  cipher-is = addRoundKey-is last (roundKey w n) last-is (hk n (le-refl n))
+
+  pub invCipher-cipher : invCipher n w (cipher n w s) ≡ s
+  unfolding first last
+  invCipher-cipher =
+      ap (λ (z : State). addRoundKey (invSubBytes (invShiftRows (invRounds w z (n - 1)))) (roundKey w 0))
+      (addRoundKey-twice last (roundKey w n) last-is)
+      ∙ ap (λ (z : State). addRoundKey z (roundKey w 0)) (rounds-undone w first first-is (n - 1) before)
+      ∙ addRoundKey-twice s (roundKey w 0) hs
+
+-- ---- on blocks
+
+pub invAes-aes : (size : KeySize) (key : Bytes) → IsBytes key → (block : Bytes) → length block ≡ 16 → IsBytes block
+    → invAes size key (aes size key block) ≡ block
+unfolding aes invAes ciph invCiph
+invAes-aes size key hk block e hb =
+    let w : List Word = schedule size key in
+    let s : State = stateOf block in
+    let hs : IsState s = stateOf-is block e hb in
+    let keys : (r : ℕ) → r ≤ nr size → IsState (roundKey w r) = roundKey-is size key hk in
+    ap (λ (z : State). bytesOf (invCipher (nr size) w z)) (stateOf-bytesOf (cipher (nr size) w s) (cipher-is (nr size) w s hs keys))
+    ∙ ap bytesOf (invCipher-cipher (nr size) w s hs keys)
+    ∙ bytesOf-stateOf block e
