@@ -1,14 +1,45 @@
--- A list is the tabulation of its elements.
+-- A list is the tabulation of its elements; so are a part of it, and the exclusive or of two.
 -- Assumes nothing.
-use mathlib.Core.Path.{_≡_, refl, ap}
+use mathlib.Core.Path.{_≡_, refl, sym, ap, ap₂, _∙_}
 use mathlib.Core.List.{List, [], _∷_}
-use Prim.Native.Nat.{ℕ, zero, suc}
+use Prim.Native.Nat.{ℕ, zero, suc, _+_, _≤_}
 use native.Mathlib.Omega.{arith}
-use lib.ListN.{getD, length}
-use Rattle.octets.specs.Bytes.{tabulate}
+use native.Mathlib.Nat.{add-zero}
+use lib.ListN.{getD, length, take, drop, length-drop}
+use lib.Seq.{getD-drop}
+use Rattle.octets.specs.Bytes.{Bytes, _⊕_, _xor_, tabulate}
+
+-- two tabulations agree where their functions do
+pub tabulate-ext : {A : Type 0} (n : ℕ) (f g : ℕ → A) → ((i : ℕ) → f i ≡ g i) → tabulate n f ≡ tabulate n g
+tabulate-ext zero f g h = refl
+tabulate-ext (suc n) f g h = ap₂ (λ x l. x ∷ l) (h 0) (tabulate-ext n (λ i. f (suc i)) (λ i. g (suc i)) (λ i. h (suc i)))
+
+pub length-tabulate : {A : Type 0} (n : ℕ) (f : ℕ → A) → length (tabulate n f) ≡ n
+length-tabulate zero f = refl
+length-tabulate (suc n) f = ap suc (length-tabulate n (λ i. f (suc i)))
 
 pub tabulate-getD : {A : Type 0} (d : A) (n : ℕ) (xs : List A) → length xs ≡ n → tabulate n (λ i. getD xs i d) ≡ xs
 tabulate-getD d zero [] h = refl
 tabulate-getD d zero (x ∷ xs) h = let z : ⊥ = omega arith in absurd z
 tabulate-getD d (suc n) [] h = let z : ⊥ = omega arith in absurd z
 tabulate-getD d (suc n) (x ∷ xs) h = ap (λ l. x ∷ l) (tabulate-getD d n xs (omega arith))
+
+tabulate-take : {A : Type 0} (d : A) (n : ℕ) (xs : List A) → n ≤ length xs → tabulate n (λ i. getD xs i d) ≡ take n xs
+tabulate-take d zero xs h = refl
+tabulate-take d (suc n) [] h = let z : ⊥ = omega arith in absurd z
+tabulate-take d (suc n) (x ∷ xs) h = ap (λ l. x ∷ l) (tabulate-take d n xs (omega arith))
+
+-- the n + 1 elements from index at on, the first written without a sum
+pub tabulate-part : {A : Type 0} (d : A) (n at : ℕ) (xs : List A) → at + suc n ≤ length xs
+    → getD xs at d ∷ tabulate n (λ i. getD xs (at + suc i) d) ≡ take (suc n) (drop at xs)
+tabulate-part d n at xs h =
+    ap (λ k. getD xs k d ∷ tabulate n (λ i. getD xs (at + suc i) d)) (sym (add-zero at))
+    ∙ tabulate-ext (suc n) (λ i. getD xs (at + i) d) (λ i. getD (drop at xs) i d) (λ i. sym (getD-drop at xs i d))
+    ∙ tabulate-take d (suc n) (drop at xs) (simp length-drop (omega arith))
+
+pub tabulate-xor : (n : ℕ) (a b : Bytes) → length a ≡ n → length b ≡ n → tabulate n (λ i. getD a i 0 ⊕ getD b i 0) ≡ a xor b
+tabulate-xor zero [] b h k = refl
+tabulate-xor zero (x ∷ a) b h k = let z : ⊥ = omega arith in absurd z
+tabulate-xor (suc n) [] b h k = let z : ⊥ = omega arith in absurd z
+tabulate-xor (suc n) (x ∷ a) [] h k = let z : ⊥ = omega arith in absurd z
+tabulate-xor (suc n) (x ∷ a) (y ∷ b) h k = ap (λ l. (x ⊕ y) ∷ l) (tabulate-xor n a b (omega arith) (omega arith))
