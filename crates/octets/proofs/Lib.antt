@@ -1,3 +1,4 @@
 pub mod Xor
+pub mod XorBytes
 pub mod Table
 pub mod Tabulate
