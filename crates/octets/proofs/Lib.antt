@@ -1,4 +1,5 @@
 pub mod Xor
+pub mod XorBytes
 pub mod Table
 pub mod Tabulate
 pub mod Four

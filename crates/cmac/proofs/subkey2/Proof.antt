@@ -1,0 +1,16 @@
+-- `subkey2` meets its contract: it doubles K1.
+-- Assumes nothing.
+use borrow.Author.Needs.{needs}
+use Rattle.cmac.specs.Cmac.{subkey2}
+use Rattle.cmac.proofs.subkey2.Statement.{statement}
+use Rattle.cmac.proofs.subkey2.Tie as tie
+
+returns : tie.Need-returns
+unfolding subkey2
+returns c = cc
+
+pub subkey2-spec : {M : Type 1} → statement M
+subkey2-spec =
+    tie.close
+    (tie.spec
+    (λ c κs. search needs) (λ c κs. search needs) returns)
