@@ -4,3 +4,4 @@ pub mod Table
 pub mod Tabulate
 pub mod Four
 pub mod ByteStrings
+pub mod Writing
