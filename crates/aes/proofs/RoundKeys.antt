@@ -13,11 +13,12 @@ use Rattle.octets.specs.Bytes.{Bytes, IsBytes, _⊕_, zeros}
 use Rattle.octets.specs.Choice.{if_then_else_}
 use Rattle.octets.proofs.ByteStrings.{by-test, byte-at}
 use Rattle.octets.proofs.Tabulate.{getD-tabulate}
+use Rattle.octets.proofs.Xor.{xor-byte}
 use Rattle.sbox.specs.SBox.{sBox}
 use Rattle.sbox.proofs.TableRule.{sBox-lt}
 use Rattle.state.specs.State.{Word, State, word, addWord, IsState}
 use Rattle.state.specs.Transformations.{subWord}
-use Rattle.state.proofs.XTimes.{xor-byte, xTimes-byte}
+use Rattle.state.proofs.XTimes.{xTimes-byte}
 use Rattle.aes.specs.KeySizes.{nk, nr}
 use Rattle.aes.specs.KeyExpansion.{rotWord, xPower, rcon, temp, keyWord, nextWord, words, keyExpansion, schedule}
 use Rattle.aes.specs.Cipher.{roundKey}

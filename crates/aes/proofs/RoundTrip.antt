@@ -5,17 +5,17 @@ use mathlib.Core.List.{List}
 use Prim.Native.Nat.{ℕ, zero, suc, _-_, _≤_, zero-le}
 use native.Mathlib.Nat.{le-refl}
 use native.Mathlib.Omega.{arith}
-use lib.ListN.{length}
 use Rattle.octets.specs.Bytes.{Bytes, IsBytes}
 use Rattle.state.specs.State.{Word, State, stateOf, bytesOf, IsState}
 use Rattle.state.specs.Transformations.{subBytes, shiftRows, mixColumns, addRoundKey}
 use Rattle.state.specs.InvTransformations.{invShiftRows, invSubBytes, invMixColumns}
-use Rattle.state.proofs.Undo.{invSubBytes-subBytes, subBytes-is, invShiftRows-shiftRows, shiftRows-is, invMixColumns-mixColumns, mixColumns-is, addRoundKey-twice, addRoundKey-is, bytesOf-stateOf, stateOf-bytesOf, stateOf-is}
+use Rattle.state.proofs.Undo.{invSubBytes-subBytes, subBytes-is, invShiftRows-shiftRows, shiftRows-is, invMixColumns-mixColumns, mixColumns-is, addRoundKey-twice, addRoundKey-is, bytesOf-stateOf, stateOf-bytesOf, stateOf-is, bytesOf-bytes}
 use Rattle.aes.specs.KeySizes.{nr}
 use Rattle.aes.specs.KeyExpansion.{schedule}
 use Rattle.aes.specs.Cipher.{roundKey, rounds, cipher}
 use Rattle.aes.specs.InvCipher.{invRounds, invCipher}
 use Rattle.aes.specs.Aes.{ciph, invCiph, aes, invAes}
+use Rattle.aes.specs.BlockCipher.{IsBlock, BlockCipher}
 use Rattle.aes.specs.declared.KeySize.{KeySize}
 use Rattle.aes.proofs.RoundKeys.{roundKey-is}
 
@@ -82,14 +82,30 @@ module _ (n : ℕ) (w : List Word) (s : State) (hs : IsState s) (hk : (r : ℕ) 
 
 -- ---- on blocks
 
-pub invAes-aes : (size : KeySize) (key : Bytes) → IsBytes key → (block : Bytes) → length block ≡ 16 → IsBytes block
-    → invAes size key (aes size key block) ≡ block
-unfolding aes invAes ciph invCiph
-invAes-aes size key hk block e hb =
-    let w : List Word = schedule size key in
-    let s : State = stateOf block in
-    let hs : IsState s = stateOf-is block e hb in
-    let keys : (r : ℕ) → r ≤ nr size → IsState (roundKey w r) = roundKey-is size key hk in
-    ap (λ (z : State). bytesOf (invCipher (nr size) w z)) (stateOf-bytesOf (cipher (nr size) w s) (cipher-is (nr size) w s hs keys))
-    ∙ ap bytesOf (invCipher-cipher (nr size) w s hs keys)
-    ∙ bytesOf-stateOf block e
+module _ (size : KeySize) (key : Bytes) (hk : IsBytes key) (block : Bytes) (hb : IsBlock block) where
+  w : List Word
+  w = schedule size key
+
+  keys : (r : ℕ) → r ≤ nr size → IsState (roundKey w r)
+  unfolding w
+  keys = roundKey-is size key hk
+
+  plain-is : IsState (stateOf block)
+  plain-is = stateOf-is block (hb .size) (hb .bytes)
+
+  enciphered-is : IsState (cipher (nr size) w (stateOf block))
+  enciphered-is = cipher-is (nr size) w (stateOf block) plain-is keys
+
+  pub aes-block : IsBlock (aes size key block)
+  unfolding aes ciph w
+  aes-block = record { size = refl; bytes = bytesOf-bytes (cipher (nr size) w (stateOf block)) enciphered-is }
+
+  pub invAes-aes : invAes size key (aes size key block) ≡ block
+  unfolding aes invAes ciph invCiph w
+  invAes-aes =
+      ap (λ (z : State). bytesOf (invCipher (nr size) w z)) (stateOf-bytesOf (cipher (nr size) w (stateOf block)) enciphered-is)
+      ∙ ap bytesOf (invCipher-cipher (nr size) w (stateOf block) plain-is keys)
+      ∙ bytesOf-stateOf block (hb .size)
+
+pub aes-is : (size : KeySize) (key : Bytes) → IsBytes key → BlockCipher (aes size key) (invAes size key)
+aes-is size key hk = record { block = aes-block size key hk; undo = invAes-aes size key hk }

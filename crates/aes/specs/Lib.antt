@@ -3,3 +3,4 @@ pub mod KeyExpansion
 pub mod Cipher
 pub mod InvCipher
 pub mod Aes
+pub mod BlockCipher

@@ -2,14 +2,14 @@
 -- The cipher's round trip uses these. Assumes nothing.
 use mathlib.Core.Path.{_≡_, refl, sym, ap, _∙_, subst}
 use mathlib.Core.List.{List, []}
-use Prim.Native.Nat.{ℕ, zero, suc, _+_, _*_, _%_, _<_}
+use Prim.Native.Nat.{ℕ, zero, suc, _+_, _*_, _/_, _%_, _<_}
 use native.Mathlib.Nat.{mod-lt, zero-lt-suc}
 use native.Mathlib.Omega.{arith}
 use lib.Dec.{lit<}
 use lib.ListN.{getD, length}
 use Rattle.octets.specs.Bytes.{Bytes, IsBytes, _⊕_, tabulate}
 use Rattle.octets.proofs.Tabulate.{tabulate-getD, tabulate-ext, getD-tabulate, length-tabulate}
-use Rattle.octets.proofs.Xor.{xor-undo}
+use Rattle.octets.proofs.Xor.{xor-byte, xor-undo}
 use Rattle.sbox.specs.Field.{_•_}
 use Rattle.sbox.specs.SBox.{sBox, invSBox}
 use Rattle.sbox.proofs.TableRule.{invSBox-sBox, sBox-lt}
@@ -17,7 +17,7 @@ use Rattle.state.specs.State.{Word, State, at, state, stateOf, bytesOf, 
 use Rattle.state.specs.Transformations.{subBytes, shiftRows, mixColumn, mixColumns, addRoundKey}
 use Rattle.state.specs.InvTransformations.{invSubBytes, invShiftRows, invMixColumn, invMixColumns}
 use Rattle.state.proofs.MixColumn.{invMixColumn-mixColumn}
-use Rattle.state.proofs.XTimes.{xor-byte, times-byte}
+use Rattle.state.proofs.XTimes.{times-byte}
 
 -- ---- a State by its bytes
 
@@ -123,3 +123,8 @@ stateOf-bytesOf s h = state-at s h
 
 pub stateOf-is : (b : Bytes) → length b ≡ 16 → IsBytes b → IsState (stateOf b)
 stateOf-is b e h = state-is (λ r c. getD b (r + 4 * c) 0) (λ r c hr hc. h (r + 4 * c) (omega (arith, e)))
+
+pub bytesOf-bytes : (s : State) → IsState s → IsBytes (bytesOf s)
+bytesOf-bytes s h i k =
+    subst (λ (b : ℕ). b < 256) (sym (getD-tabulate 0 16 (λ (j : ℕ). at s (j % 4) (j / 4)) i k))
+    (h .bytes (i % 4) (i / 4) (mod-lt i (zero-lt-suc 3)) (omega arith))

@@ -5,11 +5,11 @@ use mathlib.Core.Bool.{Bool, true, false}
 use Prim.Native.Nat.{ℕ, zero, suc, _*_, _/_, _%_, _<_}
 use native.Mathlib.Nat.{mod-lt, zero-lt-suc, le-of-suc-le-suc, not-suc-le-zero, add-zero}
 use native.Mathlib.Omega.{arith}
-use lib.Bits.{differ, xor-block, xor-mod, xor-shr, xor-lt}
+use lib.Bits.{differ, xor-block, xor-mod, xor-shr}
 use lib.Dec.{eqb}
 use Rattle.octets.specs.Bytes.{_⊕_}
 use Rattle.octets.specs.Choice.{if_then_else_}
-use Rattle.octets.proofs.Xor.{xor-odd, swap}
+use Rattle.octets.proofs.Xor.{xor-byte, xor-odd, swap}
 use Rattle.sbox.specs.Field.{xTimes, product, _•_}
 
 -- a multiple of 0x1b by the exclusive or of two bits
@@ -43,9 +43,6 @@ xTimes-sum a b =
 pub xTimes-zero : xTimes 0 ≡ 0
 unfolding xTimes
 xTimes-zero = refl
-
-pub xor-byte : (a b : ℕ) → a < 256 → b < 256 → a ⊕ b < 256
-xor-byte a b ha hb = xor-lt 8 a b ha hb
 
 pub xTimes-byte : (a : ℕ) → xTimes a < 256
 unfolding xTimes

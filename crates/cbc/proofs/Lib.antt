@@ -1,0 +1,2 @@
+pub mod BlockByBlock
+pub mod RoundTrip

@@ -1,0 +1,74 @@
+// The CBC mode with AES (SP 800-38A, 6.2), in place.
+use aes::KeySize;
+use aes::decrypt_block;
+use aes::encrypt_block;
+use octets::block_at;
+use octets::put_bytes;
+use octets::xor_block;
+ghost use mathlib.Core.Path.{_≡_};
+ghost use Prim.Native.Nat.{_%_};
+ghost use lib.ListN.{length};
+ghost use Rattle.aes.specs.Aes.{ciph, invCiph};
+ghost use Rattle.cbc.specs.Cbc.{cbcEncrypt, cbcDecrypt};
+ghost use Rattle.cbc.specs.Whole.{outcome, ifWhole};
+
+pub enum Outcome {
+    Done,
+    // The length is no multiple of 16: nothing was changed.
+    PartialBlock,
+}
+
+fn encrypt_blocks(size: KeySize, w: &[[u8; 4]; 60], iv: [u8; 16], data: &mut [u8])
+    requires { ⌜ length (now «data») % 16 ≡ 0 ⌝ }
+    ensures { λ _. ⌜ now («data» .exit) ≡ cbcEncrypt (ciph size (now (w .entry))) iv (now («data» .entry)) ⌝ }
+{
+    let n = data.len() / 16;
+    let mut last = iv;
+    let mut i: usize = 0;
+    while i < n {
+        let at = 16 * i;
+        let block = encrypt_block(size, w, xor_block(block_at(data, at), last));
+        put_bytes(data, at, &block);
+        last = block;
+        i += 1;
+    }
+}
+
+fn decrypt_blocks(size: KeySize, w: &[[u8; 4]; 60], iv: [u8; 16], data: &mut [u8])
+    requires { ⌜ length (now «data») % 16 ≡ 0 ⌝ }
+    ensures { λ _. ⌜ now («data» .exit) ≡ cbcDecrypt (invCiph size (now (w .entry))) iv (now («data» .entry)) ⌝ }
+{
+    let n = data.len() / 16;
+    let mut last = iv;
+    let mut i: usize = 0;
+    while i < n {
+        let at = 16 * i;
+        let block = block_at(data, at);
+        let plain = xor_block(decrypt_block(size, w, block), last);
+        put_bytes(data, at, &plain);
+        last = block;
+        i += 1;
+    }
+}
+
+pub fn encrypt(size: KeySize, w: &[[u8; 4]; 60], iv: [u8; 16], data: &mut [u8]) -> Outcome
+    ensures answer { λ r. ⌜ r ≡ outcome (now («data» .entry)) ⌝ }
+    ensures buffer { λ _. ⌜ now («data» .exit) ≡ ifWhole (cbcEncrypt (ciph size (now (w .entry))) iv) (now («data» .entry)) ⌝ }
+{
+    if data.len() % 16 != 0 {
+        return Outcome::PartialBlock;
+    }
+    encrypt_blocks(size, w, iv, data);
+    Outcome::Done
+}
+
+pub fn decrypt(size: KeySize, w: &[[u8; 4]; 60], iv: [u8; 16], data: &mut [u8]) -> Outcome
+    ensures answer { λ r. ⌜ r ≡ outcome (now («data» .entry)) ⌝ }
+    ensures buffer { λ _. ⌜ now («data» .exit) ≡ ifWhole (cbcDecrypt (invCiph size (now (w .entry))) iv) (now («data» .entry)) ⌝ }
+{
+    if data.len() % 16 != 0 {
+        return Outcome::PartialBlock;
+    }
+    decrypt_blocks(size, w, iv, data);
+    Outcome::Done
+}
