@@ -1,12 +1,13 @@
 -- A list is the tabulation of its elements; so are a part of it, and the exclusive or of two.
 -- Assumes nothing.
 use mathlib.Core.Path.{_≡_, refl, sym, ap, ap₂, _∙_}
-use mathlib.Core.List.{List, [], _∷_}
-use Prim.Native.Nat.{ℕ, zero, suc, _+_, _≤_}
+use mathlib.Core.List.{List, [], _∷_, _++_}
+use Prim.Native.Nat.{ℕ, zero, suc, _+_, _≤_, _<_}
 use native.Mathlib.Omega.{arith}
 use native.Mathlib.Nat.{add-zero}
-use lib.ListN.{getD, length, take, drop, length-drop}
-use lib.Seq.{getD-drop}
+use native.Mathlib.Numerals.{add-one}
+use lib.ListN.{getD, length, take, drop, set, length-drop}
+use lib.Seq.{getD-drop, take-suc-set}
 use Rattle.octets.specs.Bytes.{Bytes, _⊕_, _xor_, tabulate}
 
 -- two tabulations agree where their functions do
@@ -17,6 +18,17 @@ tabulate-ext (suc n) f g h = ap₂ (λ x l. x ∷ l) (h 0) (tabulate-ext n (λ i
 pub length-tabulate : {A : Type 0} (n : ℕ) (f : ℕ → A) → length (tabulate n f) ≡ n
 length-tabulate zero f = refl
 length-tabulate (suc n) f = ap suc (length-tabulate n (λ i. f (suc i)))
+
+-- one element more
+pub tabulate-more : {A : Type 0} (n : ℕ) (f : ℕ → A) → tabulate (suc n) f ≡ tabulate n f ++ f n ∷ []
+tabulate-more zero f = refl
+tabulate-more (suc n) f = ap (λ l. f 0 ∷ l) (tabulate-more n (λ i. f (suc i)))
+
+-- a loop that stores f n at index n, in turn
+pub tabulate-store : {A : Type 0} (n : ℕ) (f : ℕ → A) (l : List A) → take n l ≡ tabulate n f → n < length l
+    → take (n + 1) (set l n (f n)) ≡ tabulate (n + 1) f
+tabulate-store n f l e h =
+    rw add-one (take-suc-set l n (f n) h ∙ ap (λ t. t ++ f n ∷ []) e ∙ sym (tabulate-more n f))
 
 pub tabulate-getD : {A : Type 0} (d : A) (n : ℕ) (xs : List A) → length xs ≡ n → tabulate n (λ i. getD xs i d) ≡ xs
 tabulate-getD d zero [] h = refl
