@@ -1,2 +1,3 @@
 pub mod BlockByBlock
+pub mod WholeMessage
 pub mod Theorems

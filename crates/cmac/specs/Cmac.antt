@@ -11,10 +11,13 @@ use Rattle.octets.specs.Choice.{if_then_else_}
 abbrev pub Cipher : Type 0
 Cipher = Bytes → Bytes
 
--- 4.2.2: X << 1: each byte moves up by a bit and takes the top bit of the byte after it
+-- byte i of X << 1, for i below 15: byte i moves up by a bit and takes the top bit of byte i + 1
+abbrev pub shiftedByte : Bytes → ℕ → ℕ
+shiftedByte x i = (getD x i 0 * 2 % 256) ⊕ (getD x (i + 1) 0 / 128)
+
+-- 4.2.2: X << 1
 unfoldable pub shiftLeft : Bytes → Bytes
-shiftLeft x =
-    tabulate 15 (λ i. (getD x i 0 * 2 % 256) ⊕ (getD x (i + 1) 0 / 128)) ++ (getD x 15 0 * 2 % 256) ∷ []
+shiftLeft x = tabulate 15 (shiftedByte x) ++ (getD x 15 0 * 2 % 256) ∷ []
 
 -- 5.3: R_128 = 0^120 10000111
 abbrev pub r128 : Bytes

@@ -16,26 +16,17 @@ const R128: [u8; 16] = [0, 0, 0, 0, 0, 0, 0, 0, 0, 0, 0, 0, 0, 0, 0, 0x87];
 fn shift_left(x: [u8; 16]) -> [u8; 16]
     ensures { λ r. ⌜ r ≡ shiftLeft x ⌝ }
 {
-    [
-        (x[0] << 1) ^ (x[1] / 128),
-        (x[1] << 1) ^ (x[2] / 128),
-        (x[2] << 1) ^ (x[3] / 128),
-        (x[3] << 1) ^ (x[4] / 128),
-        (x[4] << 1) ^ (x[5] / 128),
-        (x[5] << 1) ^ (x[6] / 128),
-        (x[6] << 1) ^ (x[7] / 128),
-        (x[7] << 1) ^ (x[8] / 128),
-        (x[8] << 1) ^ (x[9] / 128),
-        (x[9] << 1) ^ (x[10] / 128),
-        (x[10] << 1) ^ (x[11] / 128),
-        (x[11] << 1) ^ (x[12] / 128),
-        (x[12] << 1) ^ (x[13] / 128),
-        (x[13] << 1) ^ (x[14] / 128),
-        (x[14] << 1) ^ (x[15] / 128),
-        x[15] << 1,
-    ]
+    let mut r = [0u8; 16];
+    let mut i: usize = 0;
+    while i < 15 {
+        r[i] = (x[i] << 1) ^ (x[i + 1] / 128);
+        i += 1;
+    }
+    r[15] = x[15] << 1;
+    r
 }
 
+// x times the polynomial u in GF(2^128).
 fn double(x: [u8; 16]) -> [u8; 16]
     ensures { λ r. ⌜ r ≡ double x ⌝ }
 {
@@ -158,11 +149,11 @@ impl Cmac {
     {
         let chain = self.chain;
         let len = self.len;
-        if 16 <= len {
-            return encrypt_block(size, w, xor_block(chain, subkey1(size, w)));
+        if len < 16 {
+            let padded = self.add(0x80);
+            let last = padded.chain;
+            return encrypt_block(size, w, xor_block(last, subkey2(size, w)));
         }
-        let padded = self.add(0x80);
-        let last = padded.chain;
-        encrypt_block(size, w, xor_block(last, subkey2(size, w)))
+        encrypt_block(size, w, xor_block(chain, subkey1(size, w)))
     }
 }

@@ -1,4 +1,4 @@
--- A rule of a list, proved at each of its entries by one test that the checker computes.
+-- A rule of a list, or of all bytes, proved at each entry by one test that the checker computes.
 -- Assumes nothing.
 use mathlib.Core.Path.{_≡_, _∙_, subst, sym}
 use mathlib.Core.Bool.{Bool, true, false, _&&_}
@@ -7,7 +7,7 @@ use Prim.Native.Nat.{ℕ, zero, suc, _+_, _<_}
 use native.Mathlib.Nat.{add-zero, zero-add, add-suc, suc-add, le-of-suc-le-suc, not-suc-le-zero}
 use lib.Dec.{T}
 use lib.ListN.{length, getD}
-use Rattle.octets.specs.Bytes.{Bytes}
+use Rattle.octets.specs.Bytes.{Bytes, tabulate}
 
 pub both-left : (a b : Bool) → T (a && b) → T a
 both-left true b t = tt
@@ -32,3 +32,14 @@ from test (x ∷ xs) i t (suc k) h =
 
 pub at : (test : ℕ → ℕ → Bool) (xs : Bytes) → T (every test 0 xs) → (k : ℕ) → k < length xs → T (test k (getD xs k 0))
 at test xs t k h = subst (λ (m : ℕ). T (test m (getD xs k 0))) (zero-add k) (from test xs 0 t k h)
+
+-- every byte, in order
+abbrev allBytes : Bytes
+allBytes = tabulate 256 (λ b. b)
+
+-- a test of a byte, at each of them
+abbrev pub everyByte : (ℕ → Bool) → Bool
+everyByte test = every (λ b x. test b) 0 allBytes
+
+pub at-byte : (test : ℕ → Bool) → T (everyByte test) → (b : ℕ) → b < 256 → T (test b)
+at-byte test t b h = at (λ b x. test b) allBytes t b h

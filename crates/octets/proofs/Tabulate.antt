@@ -1,12 +1,13 @@
 -- Lists given element by element: equal where the elements are; a list, a part of it and an exclusive or are tabulations.
 -- Assumes nothing.
 use mathlib.Core.Path.{_≡_, refl, sym, ap, ap₂, _∙_}
-use mathlib.Core.List.{List, [], _∷_}
+use mathlib.Core.List.{List, [], _∷_, _++_}
 use Prim.Native.Nat.{ℕ, zero, suc, _+_, _<_, _≤_}
 use native.Mathlib.Nat.{add-zero, not-suc-le-zero}
+use native.Mathlib.Numerals.{add-one}
 use native.Mathlib.Omega.{arith}
-use lib.ListN.{getD, length, take, drop, length-drop}
-use lib.Seq.{getD-drop, take-all}
+use lib.ListN.{getD, length, take, drop, set, length-drop}
+use lib.Seq.{getD-drop, take-all, take-suc-set}
 use Rattle.octets.specs.Bytes.{Bytes, _⊕_, _xor_, tabulate}
 
 pub tabulate-ext : {A : Type 0} (n : ℕ) {f g : ℕ → A} → ((i : ℕ) → i < n → f i ≡ g i) → tabulate n f ≡ tabulate n g
@@ -21,6 +22,17 @@ pub getD-tabulate : {A : Type 0} (d : A) (n : ℕ) (f : ℕ → A) (i : ℕ) →
 getD-tabulate d zero f i h = absurd (not-suc-le-zero h)
 getD-tabulate d (suc n) f zero h = refl
 getD-tabulate d (suc n) f (suc i) h = getD-tabulate d n (λ j. f (suc j)) i (omega arith)
+
+-- one element more
+pub tabulate-more : {A : Type 0} (n : ℕ) (f : ℕ → A) → tabulate (suc n) f ≡ tabulate n f ++ f n ∷ []
+tabulate-more zero f = refl
+tabulate-more (suc n) f = ap (λ l. f 0 ∷ l) (tabulate-more n (λ i. f (suc i)))
+
+-- a loop that stores f n at index n, in turn
+pub tabulate-store : {A : Type 0} (n : ℕ) (f : ℕ → A) (l : List A) → take n l ≡ tabulate n f → n < length l
+    → take (n + 1) (set l n (f n)) ≡ tabulate (n + 1) f
+tabulate-store n f l e h =
+    rw add-one (take-suc-set l n (f n) h ∙ ap (λ t. t ++ f n ∷ []) e ∙ sym (tabulate-more n f))
 
 tabulate-take : {A : Type 0} (d : A) (n : ℕ) (xs : List A) → n ≤ length xs → tabulate n (λ i. getD xs i d) ≡ take n xs
 tabulate-take d zero xs h = refl

@@ -4,8 +4,11 @@ mod tables;
 use tables::INV_SBOX;
 use tables::SBOX;
 ghost use mathlib.Core.Path.{_≡_};
-ghost use Rattle.sbox.specs.Field.{xTimes};
-ghost use Rattle.sbox.specs.SBox.{IsTable, sBox, invSBox};
+ghost use Prim.Native.Nat.{_%_};
+ghost use lib.Bits.{bitAnd};
+ghost use lib.Count.{ones};
+ghost use Rattle.sbox.specs.Field.{xTimes, _•_};
+ghost use Rattle.sbox.specs.SBox.{IsTable, powers, inverse, affine, sBox, invSBox};
 
 // The S-box's table. A caller that looks up many bytes takes it once and lends it.
 pub fn sbox() -> [u8; 256]
@@ -25,4 +28,64 @@ pub fn x_times(b: u8) -> u8
     ensures { λ r. ⌜ r ≡ xTimes b ⌝ }
 {
     (b << 1) ^ (b / 128 % 2 * 0x1b)
+}
+
+// b times a.
+pub fn multiply(b: u8, a: u8) -> u8
+    ensures { λ r. ⌜ r ≡ b • a ⌝ }
+{
+    let mut sum: u8 = 0;
+    let mut bits = b;
+    let mut shifted = a;
+    let mut left: usize = 8;
+    while 0 < left {
+        sum = sum ^ (bits % 2 * shifted);
+        bits = bits / 2;
+        shifted = x_times(shifted);
+        left -= 1;
+    }
+    sum
+}
+
+// b to the power 2^n - 1.
+fn powers(n: usize, b: u8) -> u8
+    ensures { λ r. ⌜ r ≡ powers n b ⌝ }
+{
+    if n == 0 {
+        return 1;
+    }
+    multiply(b, powers(n - 1, multiply(b, b)))
+}
+
+// b^254: the multiplicative inverse, and 0 at 0.
+pub fn inverse(b: u8) -> u8
+    ensures { λ r. ⌜ r ≡ inverse b ⌝ }
+{
+    powers(7, multiply(b, b))
+}
+
+// The sum modulo 2 of the bits of b that the mask selects.
+fn parity(b: u8, mask: u8) -> u8
+    ensures { λ r. ⌜ r ≡ ones (bitAnd b mask) % 2 ⌝ }
+{
+    (u8::count_ones(b & mask) % 2) as u8
+}
+
+// Bit i of the result is the sum of bits i, i+4, i+5, i+6, i+7 of b: the mask of bit 0, turned left by i.
+pub fn affine(b: u8) -> u8
+    ensures { λ r. ⌜ r ≡ affine b ⌝ }
+{
+    let low = parity(b, 0xf1) + parity(b, 0xe3) * 2 + parity(b, 0xc7) * 4 + parity(b, 0x8f) * 8;
+    let high = parity(b, 0x1f) * 16
+        + parity(b, 0x3e) * 32
+        + parity(b, 0x7c) * 64
+        + parity(b, 0xf8) * 128;
+    (low + high) ^ 0x63
+}
+
+// The S-box by its rule, with no table.
+pub fn sbox_rule(b: u8) -> u8
+    ensures { λ r. ⌜ r ≡ sBox b ⌝ }
+{
+    affine(inverse(b))
 }

@@ -1,13 +1,14 @@
 -- `subkey1` meets its contract: it doubles the cipher of the zero block.
 -- Assumes nothing.
 use borrow.Author.Needs.{needs}
-use Rattle.cmac.specs.Cmac.{subkey1}
+use mathlib.Core.Path.{ap, _∙_}
+use Rattle.cmac.specs.Cmac.{double, subkey1}
 use Rattle.cmac.proofs.subkey1.Statement.{statement}
 use Rattle.cmac.proofs.subkey1.Tie as tie
 
 returns : tie.Need-returns
 unfolding subkey1
-returns c = cc
+returns c = c .double .ensures ∙ ap double (c .before .encrypt-block .ensures)
 
 pub subkey1-spec : {M : Type 1} → statement M
 subkey1-spec =

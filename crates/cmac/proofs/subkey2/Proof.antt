@@ -1,13 +1,14 @@
 -- `subkey2` meets its contract: it doubles K1.
 -- Assumes nothing.
 use borrow.Author.Needs.{needs}
-use Rattle.cmac.specs.Cmac.{subkey2}
+use mathlib.Core.Path.{ap, _∙_}
+use Rattle.cmac.specs.Cmac.{double, subkey2}
 use Rattle.cmac.proofs.subkey2.Statement.{statement}
 use Rattle.cmac.proofs.subkey2.Tie as tie
 
 returns : tie.Need-returns
 unfolding subkey2
-returns c = cc
+returns c = c .double .ensures ∙ ap double (c .before .subkey1 .ensures)
 
 pub subkey2-spec : {M : Type 1} → statement M
 subkey2-spec =
