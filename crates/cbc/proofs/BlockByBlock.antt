@@ -55,8 +55,8 @@ module _ (f g : Bytes → Bytes → Bytes) (mode : Bytes → List Bytes → List
       let e : b' ≡ p ++ q = eb ∙ put-head b (16 * i) c in
       let et : take (16 * (i + 1)) b' ≡ p = ap (take (16 * (i + 1))) e ∙ take-at p q (16 * (i + 1)) lp in
       let ed : drop (16 * (i + 1)) b' ≡ drop 16 d =
-          ap (drop (16 * (i + 1))) e ∙ drop-at p q (16 * (i + 1)) lp ∙ ap (λ (l : ℕ). drop (16 * i + l) b) lc
-          ∙ sym (drop-drop 16 (16 * i) b) in
+      ap (drop (16 * (i + 1))) e ∙ drop-at p q (16 * (i + 1)) lp ∙ ap (λ (l : ℕ). drop (16 * i + l) b) lc
+      ∙ sym (drop-drop 16 (16 * i) b) in
       ap₂ (λ (s t : Bytes). s ++ joined (mode u (blocks m t))) et ed
       ∙ head-join b (16 * i) c (joined (mode u (blocks m (drop 16 d))))
       ∙ ap (λ (s : Bytes). take (16 * i) b ++ s)

@@ -6,7 +6,7 @@ use Prim.Native.Nat.{ℕ}
 use native.Mathlib.Omega.{arith}
 use Rattle.octets.specs.Bytes.{Bytes}
 use Rattle.octets.specs.Choice.{if_then_else_}
-use Rattle.cbc.specs.Whole.{whole, outcome}
+use Rattle.cbc.specs.Whole.{whole, outcome, ifWhole}
 use Rattle.cbc.specs.declared.Outcome.{Outcome}
 use Rattle.cbc.specs.declared.Outcome.the-variants.{Done, PartialBlock}
 
@@ -25,3 +25,11 @@ done-whole xs e = told (whole xs) e
 pub partial-not-whole : (xs : Bytes) → outcome xs ≡ PartialBlock → whole xs ≡ false
 unfolding outcome
 partial-not-whole xs e = denied (whole xs) e
+
+pub done-changed : (f : Bytes → Bytes) (xs : Bytes) → outcome xs ≡ Done → ifWhole f xs ≡ f xs
+unfolding ifWhole
+done-changed f xs e = simp (done-whole xs e)
+
+pub partial-kept : (f : Bytes → Bytes) (xs : Bytes) → outcome xs ≡ PartialBlock → ifWhole f xs ≡ xs
+unfolding ifWhole
+partial-kept f xs e = simp (partial-not-whole xs e)

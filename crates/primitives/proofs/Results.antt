@@ -2,6 +2,7 @@
 -- Assumes nothing.
 use mathlib.Core.Path.{_≡_, refl, sym, ap, _∙_}
 use mathlib.Core.Bool.{Bool, true, false}
+use mathlib.Core.List.{List, _++_}
 use Prim.Native.Nat.{ℕ, _≤_}
 use native.Mathlib.Omega.{arith}
 use borrow.Author.Tests.{eqb-true}
@@ -11,8 +12,13 @@ use Rattle.octets.specs.Bytes.{Bytes, zeros}
 use Rattle.octets.specs.Choice.{if_then_else_}
 use Rattle.octets.specs.Write.{over, Wrote}
 use Rattle.octets.proofs.Writing.{wrote-all, over-full}
+use Rattle.aes.specs.Aes.{ciph}
 use Rattle.aes.specs.declared.KeySize.{KeySize}
 use Rattle.aes.specs.declared.KeySize.the-variants.{Aes128, Aes256}
+use Rattle.cmac.specs.Cmac.{cmac}
+use Rattle.cmac.specs.Running.{start, absorb, finish}
+use Rattle.cmac.specs.declared.Cmac.{Cmac}
+use Rattle.cmac.proofs.Theorems.{absorb-append, cmac-aes}
 use Rattle.primitives.specs.Calls.{keySize, withKey, answer, buffer}
 use Rattle.primitives.specs.declared.Key.{Key}
 use Rattle.primitives.specs.declared.Key.the-variants.{Of, BadLength}
@@ -47,3 +53,14 @@ module _ (key : Bytes) (lengths : Bool) (result : KeySize → Bytes → Bytes) (
 -- a buffer wholly written
 pub replaced : {xs : Bytes} {ys : Bytes} {next : ℕ} {out : Bytes} → Wrote xs 0 ys next out → length xs ≤ length ys → out ≡ ys
 replaced {xs} {ys} w h = wrote-all w ∙ over-full xs ys h
+
+-- a message absorbed in two parts and finished
+pub two-parts : (size : KeySize) (w : List Bytes) (head rest : Bytes) {s₀ s₁ s₂ : Cmac} {mac : Bytes}
+    → s₀ ≡ start → s₁ ≡ absorb (ciph size w) s₀ head → s₂ ≡ absorb (ciph size w) s₁ rest → mac ≡ finish (ciph size w) s₂
+    → mac ≡ cmac (ciph size w) (head ++ rest)
+two-parts size w head rest e₀ e₁ e₂ e =
+    let c : Bytes → Bytes = ciph size w in
+    e
+    ∙ ap (finish c)
+    (e₂ ∙ ap (λ (s : Cmac). absorb c s rest) (e₁ ∙ ap (λ (s : Cmac). absorb c s head) e₀) ∙ sym (absorb-append c start head rest))
+    ∙ cmac-aes size w (head ++ rest)

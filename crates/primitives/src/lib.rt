@@ -19,7 +19,9 @@ ghost use Rattle.aes.specs.Aes.{aes, invAes};
 ghost use Rattle.primitives.specs.Calls.{keySize, isBlock, answer, buffer};
 
 const DONE: u32 = 0;
+
 const MALFORMED: u32 = 7;
+
 const BAD_KEY_LENGTH: u32 = 12;
 
 enum Key {
@@ -131,7 +133,10 @@ pub extern "C" fn pivsm_cmac(key: &[u8], head: &[u8], rest: &[u8], mac: &mut [u8
         return MALFORMED;
     }
     let w = expanded(size, key);
-    let result = Cmac::start().absorb(size, &w, head).absorb(size, &w, rest).finish(size, &w);
+    let result = Cmac::start()
+        .absorb(size, &w, head)
+        .absorb(size, &w, rest)
+        .finish(size, &w);
     put_bytes(mac, 0, &result);
     DONE
 }

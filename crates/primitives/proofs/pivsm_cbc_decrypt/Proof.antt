@@ -2,7 +2,7 @@
 -- Assumes nothing.
 use borrow.Author.Needs.{needs}
 use mathlib.Core.Path.{_≡_, ap₂, sym, _∙_}
-use mathlib.Core.Bool.{true}
+use mathlib.Core.Bool.{_&&_}
 use mathlib.Core.List.{List}
 use native.Mathlib.Omega.{arith}
 use borrow.Author.Tests.{eq-eqb, ne-eqb}
@@ -11,8 +11,9 @@ use lib.Seq.{take-all}
 use Rattle.octets.specs.Bytes.{Bytes}
 use Rattle.aes.specs.Aes.{invCiph, invAes}
 use Rattle.cbc.specs.Cbc.{cbcDecrypt}
-use Rattle.cbc.specs.Whole.{whole, ifWhole}
-use Rattle.cbc.proofs.Outcomes.{done-whole, partial-not-whole}
+use Rattle.cbc.specs.Whole.{whole}
+use Rattle.primitives.specs.Calls.{isBlock}
+use Rattle.cbc.proofs.Outcomes.{done-whole, done-changed, partial-not-whole, partial-kept}
 use Rattle.primitives.proofs.Results.{key-fits, bad-key, malformed, done}
 use Rattle.primitives.proofs.pivsm_cbc_decrypt.Statement.{statement}
 use Rattle.primitives.proofs.pivsm_cbc_decrypt.Tie as tie
@@ -22,32 +23,33 @@ returns c = bad-key _ _ _ _ (sym (c .before .before .key-size .ensures) ∙ c .e
 
 returns-2 : tie.Need-returns-2
 returns-2 c =
-    malformed _ _ _ _ _ (sym (c .before .before .before .before .key-size .ensures) ∙ c .before .known-told .given .1) (simp (ne-eqb _ _ (c .if1 .taken)))
+    malformed _ _ _ _ _ (sym (c .before .before .before .before .key-size .ensures) ∙ c .before .before .size .given .1) (simp (ne-eqb _ _ (c .if1 .taken)))
 
 expanded-requires : tie.Need-expanded-requires
 expanded-requires c κs =
-    key-fits _ _ (sym (c .before .before .before .before .key-size .ensures) ∙ c .before .known-told .given .1)
+    key-fits _ _ (sym (c .before .before .before .before .key-size .ensures) ∙ c .before .before .size .given .1)
 
 returns-3 : tie.Need-returns-3
-unfolding invAes ifWhole
+unfolding invAes
 returns-3 c =
     let a = c .before .before .before .before .before .before .before .before .before .before .before .before .before .before .before .before .before .args in
     let iv = a .iv .now in
     let xs = a .«data» .now in
     let size : length iv ≡ 16 = c .before .before .before .before .before .before .before .before .before .if1 .left in
-    let all : whole xs ≡ true = done-whole xs (sym (c .before .before .before .before .decrypt .ensures .0) ∙ c .enum-told2 .given .1) in
-    done _ _ _ _ _ (sym (c .before .before .before .before .before .before .before .before .before .before .before .before .before .key-size .ensures) ∙ c .before .before .before .before .before .before .before .before .before .before .known-told .given .1) (simp (eq-eqb _ _ size, all))
-    (c .before .before .before .before .decrypt .ensures .1 ∙ simp all
-    (ap₂ (λ (w : List Bytes) (v : Bytes). cbcDecrypt (invCiph _ w) v xs) (c .before .before .before .before .before .before .before .before .expanded .ensures)
+    let told = sym (c .before .before .before .before .decrypt .ensures .0) ∙ c .enum-told2 .given .1 in
+    done _ _ _ _ _ (sym (c .before .before .before .before .before .before .before .before .before .before .before .before .before .key-size .ensures) ∙ c .before .before .before .before .before .before .before .before .before .before .before .size .given .1) (simp (eq-eqb _ _ size, done-whole xs told))
+    (c .before .before .before .before .decrypt .ensures .1 ∙ done-changed _ xs told
+    ∙ (ap₂ (λ (w : List Bytes) (v : Bytes). cbcDecrypt (invCiph (c .before .before .before .before .before .before .before .before .before .before .before .size .given .0 .0) w) v xs) (c .before .before .before .before .before .before .before .before .expanded .ensures)
     (c .before .before .before .before .before .before .block-at .ensures ∙ take-all 16 iv (omega (arith, size)))))
 
 returns-4 : tie.Need-returns-4
-unfolding ifWhole
 returns-4 c =
     let xs = c .before .before .before .before .before .before .before .before .before .before .before .before .before .before .before .before .before .args .«data» .now in
-    let part = partial-not-whole xs (sym (c .before .before .before .before .decrypt .ensures .0) ∙ c .enum-told3 .given .1) in
-    let m = malformed _ _ _ _ _ (sym (c .before .before .before .before .before .before .before .before .before .before .before .before .before .key-size .ensures) ∙ c .before .before .before .before .before .before .before .before .before .before .known-told .given .1) (simp (eq-eqb _ _ (c .before .before .before .before .before .before .before .before .before .if1 .left), part)) in
-    (m .0, c .before .before .before .before .decrypt .ensures .1 ∙ simp part (m .1))
+    let told = sym (c .before .before .before .before .decrypt .ensures .0) ∙ c .enum-told3 .given .1 in
+    let a = c .before .before .before .before .before .before .before .before .before .before .before .before .before .before .before .before .before .args in
+    let m = malformed (a .key .now) (isBlock (a .iv .now) && whole xs) (λ size k. cbcDecrypt (invAes size k) (a .iv .now) xs) xs _ (sym (c .before .before .before .before .before .before .before .before .before .before .before .before .before .key-size .ensures) ∙ c .before .before .before .before .before .before .before .before .before .before .before .size .given .1)
+    (simp (eq-eqb _ _ (c .before .before .before .before .before .before .before .before .before .if1 .left), partial-not-whole xs told)) in
+    (m .0, c .before .before .before .before .decrypt .ensures .1 ∙ partial-kept _ xs told ∙ m .1)
 
 pub pivsm-cbc-decrypt-spec : {M : Type 1} → statement M
 pivsm-cbc-decrypt-spec =
