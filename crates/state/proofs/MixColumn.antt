@@ -1,17 +1,15 @@
 -- The products of MixColumns and InvMixColumns as the code makes them, by repeated xTimes; and InvMixColumns undoes MixColumns.
 -- Assumes nothing.
-use mathlib.Core.Path.{_≡_, refl, sym, ap, _∙_}
+use mathlib.Core.Path.{_≡_, ap₂, _∙_}
 use mathlib.Core.Bool.{Bool}
 use mathlib.Core.List.{List, [], _∷_}
 use Prim.Native.Nat.{ℕ, zero, suc, _/_, _%_}
-use lib.Bits.{xor-comm}
 use lib.Dec.{eqb}
 use lib.ListN.{getD, length}
 use Rattle.octets.specs.Bytes.{_⊕_}
 use Rattle.octets.specs.Choice.{if_then_else_}
 use Rattle.octets.proofs.Four.{four}
 use Rattle.octets.proofs.Tabulate.{tabulate-getD}
-use Rattle.octets.proofs.Xor.{xor-assoc}
 use Rattle.sbox.specs.Field.{xTimes, product, _•_}
 use Rattle.state.specs.State.{Word}
 use Rattle.state.specs.Transformations.{mixColumn}
@@ -59,10 +57,10 @@ pub times-0e : (a : ℕ) → xTimes (xTimes (xTimes a)) ⊕ xTimes (xTimes a) �
 unfolding product _•_
 times-0e a = equal (one a) 1 (plus (plus byXXX (byX (byX (byte 0)))) (byX (byte 0))) (by 0x0e (byte 0)) tt
 
--- ---- a row of the matrix is the row above turned right, so one sum serves all rows
+-- ---- a row of products
 
-pub turned : (a b c d : ℕ) → a ⊕ b ⊕ c ⊕ d ≡ d ⊕ a ⊕ b ⊕ c
-turned a b c d = xor-comm (a ⊕ b ⊕ c) d ∙ sym (xor-assoc d (a ⊕ b) c) ∙ ap (λ (x : ℕ). x ⊕ c) (sym (xor-assoc d a b))
+pub sum : {a b c d a' b' c' d' : ℕ} → a ≡ a' → b ≡ b' → c ≡ c' → d ≡ d' → a ⊕ b ⊕ c ⊕ d ≡ a' ⊕ b' ⊕ c' ⊕ d'
+sum p q r s = ap₂ _⊕_ (ap₂ _⊕_ (ap₂ _⊕_ p q) r) s
 
 -- ---- InvMixColumns undoes MixColumns
 

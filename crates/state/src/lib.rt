@@ -84,21 +84,26 @@ pub fn shift_rows(s: [[u8; 4]; 4]) -> [[u8; 4]; 4]
     ]
 }
 
-// One row of the matrix serves all four: each is the one above, turned.
-fn mix_row(a: u8, b: u8, c: u8, d: u8) -> u8
-    ensures { λ r. ⌜ r ≡ 2 • a ⊕ 3 • b ⊕ c ⊕ d ⌝ }
+fn times_02(a: u8) -> u8
+    ensures { λ r. ⌜ r ≡ 2 • a ⌝ }
 {
-    sbox::x_times(a) ^ (sbox::x_times(b) ^ b) ^ c ^ d
+    sbox::x_times(a)
+}
+
+fn times_03(a: u8) -> u8
+    ensures { λ r. ⌜ r ≡ 3 • a ⌝ }
+{
+    sbox::x_times(a) ^ a
 }
 
 fn mix_column(s: [u8; 4]) -> [u8; 4]
     ensures { λ r. ⌜ r ≡ mixColumn s ⌝ }
 {
     [
-        mix_row(s[0], s[1], s[2], s[3]),
-        mix_row(s[1], s[2], s[3], s[0]),
-        mix_row(s[2], s[3], s[0], s[1]),
-        mix_row(s[3], s[0], s[1], s[2]),
+        times_02(s[0]) ^ times_03(s[1]) ^ s[2] ^ s[3],
+        s[0] ^ times_02(s[1]) ^ times_03(s[2]) ^ s[3],
+        s[0] ^ s[1] ^ times_02(s[2]) ^ times_03(s[3]),
+        times_03(s[0]) ^ s[1] ^ s[2] ^ times_02(s[3]),
     ]
 }
 
@@ -201,20 +206,14 @@ fn times_0e(a: u8) -> u8
     a8 ^ a4 ^ a2
 }
 
-fn inv_mix_row(a: u8, b: u8, c: u8, d: u8) -> u8
-    ensures { λ r. ⌜ r ≡ 0x0e • a ⊕ 0x0b • b ⊕ 0x0d • c ⊕ 0x09 • d ⌝ }
-{
-    times_0e(a) ^ times_0b(b) ^ times_0d(c) ^ times_09(d)
-}
-
 fn inv_mix_column(s: [u8; 4]) -> [u8; 4]
     ensures { λ r. ⌜ r ≡ invMixColumn s ⌝ }
 {
     [
-        inv_mix_row(s[0], s[1], s[2], s[3]),
-        inv_mix_row(s[1], s[2], s[3], s[0]),
-        inv_mix_row(s[2], s[3], s[0], s[1]),
-        inv_mix_row(s[3], s[0], s[1], s[2]),
+        times_0e(s[0]) ^ times_0b(s[1]) ^ times_0d(s[2]) ^ times_09(s[3]),
+        times_09(s[0]) ^ times_0e(s[1]) ^ times_0b(s[2]) ^ times_0d(s[3]),
+        times_0d(s[0]) ^ times_09(s[1]) ^ times_0e(s[2]) ^ times_0b(s[3]),
+        times_0b(s[0]) ^ times_0d(s[1]) ^ times_09(s[2]) ^ times_0e(s[3]),
     ]
 }
 
