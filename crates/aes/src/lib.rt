@@ -1,4 +1,6 @@
 // AES with 128- and 256-bit keys (FIPS 197). The key schedule is made once and lent: 60 words, of which a 128-bit key uses 44.
+use state::add_word;
+use state::sub_word;
 ghost use mathlib.Core.Path.{_≡_};
 ghost use mathlib.Core.List.{[], _++_};
 ghost use Prim.Native.Nat.{_+_, _*_, _-_, _/_, _%_, _<_, _≤_};
@@ -6,7 +8,7 @@ ghost use lib.ListN.{length, getD, take};
 ghost use Rattle.sbox.specs.SBox.{IsTable, sBox, invSBox};
 ghost use Rattle.state.specs.State.{word, addWord};
 ghost use Rattle.aes.specs.KeySizes.{nk, nr};
-ghost use Rattle.aes.specs.KeyExpansion.{rotWord, rcon, temp, keyWord, nextWord, schedule};
+ghost use Rattle.aes.specs.KeyExpansion.{rotWord, rcon, keyWord, nextWord, schedule};
 ghost use Rattle.aes.specs.Cipher.{roundKey, rounds, cipher};
 ghost use Rattle.aes.specs.InvCipher.{invRounds, invCipher};
 ghost use Rattle.aes.specs.Aes.{ciph, invCiph};
@@ -70,24 +72,7 @@ pub fn round_key(w: &[[u8; 4]; 60], round: usize) -> [[u8; 4]; 4]
     [w[i], w[i + 1], w[i + 2], w[i + 3]]
 }
 
-fn temp_word(table: &[u8; 256], n: usize, i: usize, t: [u8; 4]) -> [u8; 4]
-    requires { ⌜ IsTable sBox (now table) ⌝ }
-    requires { ⌜ (4 ≤ n) × (n ≤ i) × (i < 4 * n + 28) ⌝ }
-    ensures { λ r. ⌜ r ≡ temp n i t ⌝ }
-{
-    let m = i % n;
-    if m == 0 {
-        let j = i / n;
-        return state::add_word(state::sub_word(table, rot_word(t)), round_constant(j));
-    }
-    if 6 < n {
-        if m == 4 {
-            return state::sub_word(table, t);
-        }
-    }
-    t
-}
-
+// Each case has its own sum, so that a word that is only added stays one number.
 fn next_word(table: &[u8; 256], n: usize, key: &[u8; 32], w: &[[u8; 4]; 60], i: usize) -> [u8; 4]
     requires { ⌜ IsTable sBox (now table) ⌝ }
     requires { ⌜ (4 ≤ n) × (n ≤ 8) × (i < 4 * n + 28) ⌝ }
@@ -96,7 +81,20 @@ fn next_word(table: &[u8; 256], n: usize, key: &[u8; 32], w: &[[u8; 4]; 60], i: 
     if i < n {
         return key_word(key, i);
     }
-    state::add_word(w[i - n], temp_word(table, n, i, w[i - 1]))
+    let prior = w[i - n];
+    let last = w[i - 1];
+    let m = i % n;
+    if m == 0 {
+        let j = i / n;
+        let temp = add_word(sub_word(table, rot_word(last)), round_constant(j));
+        return add_word(prior, temp);
+    }
+    if 6 < n {
+        if m == 4 {
+            return add_word(prior, sub_word(table, last));
+        }
+    }
+    add_word(prior, last)
 }
 
 // The words that the rounds do not use stay zero.
