@@ -1,8 +1,10 @@
-// Strings of bytes: the words that every crate uses, and blocks of 16 bytes.
+// Strings of bytes: the words that every crate uses, blocks of 16 bytes, and writing into a caller's buffer.
 ghost use mathlib.Core.Path.{_≡_};
-ghost use Prim.Native.Nat.{_+_, _≤_};
+ghost use mathlib.Core.List.{[], _∷_};
+ghost use Prim.Native.Nat.{_+_, _<_, _≤_};
 ghost use lib.ListN.{length, take, drop};
 ghost use Rattle.octets.specs.Bytes.{_xor_};
+ghost use Rattle.octets.specs.Write.{Wrote};
 
 // The exclusive or of two blocks.
 pub fn xor_block(a: [u8; 16], b: [u8; 16]) -> [u8; 16]
@@ -51,4 +53,26 @@ pub fn block_at(bytes: &[u8], at: usize) -> [u8; 16]
         bytes[at + 14],
         bytes[at + 15],
     ]
+}
+
+// Copies src into the caller's buffer from index `at` on; the index after it.
+pub fn put_bytes(out: &mut [u8], at: usize, src: &[u8]) -> usize
+    requires { ⌜ at + length (now src) ≤ length (now out) ⌝ }
+    ensures { λ next. ⌜ Wrote (now (out .entry)) at (now (src .entry)) next (now (out .exit)) ⌝ }
+{
+    let mut i = 0;
+    while i < src.len() {
+        out[at + i] = src[i];
+        i += 1;
+    }
+    at + i
+}
+
+// One byte into the caller's buffer at index `at`; the index after it.
+pub fn put_byte(out: &mut [u8], at: usize, b: u8) -> usize
+    requires { ⌜ at < length (now out) ⌝ }
+    ensures { λ next. ⌜ Wrote (now (out .entry)) at (b ∷ []) next (now (out .exit)) ⌝ }
+{
+    out[at] = b;
+    at + 1
 }

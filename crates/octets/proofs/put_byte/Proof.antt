@@ -1,0 +1,14 @@
+-- `put_byte` meets its contract: a store of one byte is a write of one.
+-- Assumes nothing.
+use borrow.Author.Needs.{needs}
+use mathlib.Core.Path.{refl}
+use denote.Ref.{now}
+use Rattle.octets.proofs.Write.{set-put}
+use Rattle.octets.proofs.put_byte.Statement.{statement}
+use Rattle.octets.proofs.put_byte.Tie as tie
+
+returns : tie.Need-returns
+returns c = record { index = refl; bytes = set-put (now (c .args .out)) (c .args .at) (c .args .b) (c .pre) }
+
+pub put-byte-spec : {M : Type 1} → statement M
+put-byte-spec = tie.close (tie.spec (λ c. search needs) (λ c. search needs) (λ c. search needs) returns)
