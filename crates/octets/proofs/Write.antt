@@ -26,13 +26,13 @@ pub over-full : (xs ys : Bytes) → length xs ≤ length ys → over xs ys ≡ y
 unfolding over
 over-full xs ys h = rw (drop-of-length-le xs h, append-nil)
 
-pub put-nil : (xs : Bytes) (at : ℕ) → put xs at [] ≡ xs
-unfolding put
-put-nil xs at = rw (add-zero, append-nil, take-append-drop)
-
 pub length-put : (xs : Bytes) (at : ℕ) (ys : Bytes) → at + length ys ≤ length xs → length (put xs at ys) ≡ length xs
 unfolding put
 length-put xs at ys h = simp (length-append, length-drop, length-take-le at xs (omega arith)) (omega arith)
+
+pub put-nil : (xs : Bytes) (at : ℕ) → put xs at [] ≡ xs
+unfolding put
+put-nil xs at = rw (add-zero, append-nil, take-append-drop)
 
 pub put-start : (xs ys : Bytes) → put xs 0 ys ≡ over xs ys
 unfolding over put
