@@ -26,7 +26,7 @@ fn shift_left(x: [u8; 16]) -> [u8; 16]
     r
 }
 
-// x times the polynomial u in GF(2^128).
+// A subkey from the value before it: x << 1, and R128 added where the top bit of x is 1.
 fn double(x: [u8; 16]) -> [u8; 16]
     ensures { λ r. ⌜ r ≡ double x ⌝ }
 {

@@ -8,8 +8,8 @@ use lib.Dec.{eqb, eqb→eq, ltb, ltb→lt}
 use lib.ListN.{getD}
 use Rattle.octets.specs.Bytes.{Bytes}
 use Rattle.octets.proofs.Table.{at}
-use Rattle.sbox.specs.Field.{xTimes, product, _•_}
-use Rattle.sbox.specs.SBox.{powers, inverse, bit, fromBits, affineBit, affine, sBox, invAffineBit, invAffine, invSBox, IsTable}
+use Rattle.sbox.specs.SBox.{bit, fromBits, affineBit, affine, sBox, invAffineBit, invAffine, invSBox, IsTable}
+use Rattle.sbox.proofs.Inverses.{inverses, inverse-at}
 
 abbrev table : Bytes
 table =
@@ -49,16 +49,32 @@ invTable =
     0xa0 ∷ 0xe0 ∷ 0x3b ∷ 0x4d ∷ 0xae ∷ 0x2a ∷ 0xf5 ∷ 0xb0 ∷ 0xc8 ∷ 0xeb ∷ 0xbb ∷ 0x3c ∷ 0x83 ∷ 0x53 ∷ 0x99 ∷ 0x61 ∷
     0x17 ∷ 0x2b ∷ 0x04 ∷ 0x7e ∷ 0xba ∷ 0x77 ∷ 0xd6 ∷ 0x26 ∷ 0xe1 ∷ 0x69 ∷ 0x14 ∷ 0x63 ∷ 0x55 ∷ 0x21 ∷ 0x0c ∷ 0x7d ∷ []
 
-follows : (ℕ → ℕ) → ℕ → ℕ → Bool
-follows f b x = eqb x (f b)
+follows : ℕ → ℕ → Bool
+follows b x = eqb x (affine (getD inverses b 0))
 
 pub sbox-table : IsTable sBox table
-unfolding follows xTimes product _•_ powers inverse bit fromBits affineBit affine sBox
-sbox-table = record { rule = λ b h. eqb→eq (getD table b 0) (sBox b) (at (follows sBox) table tt b h) }
+unfolding follows bit fromBits affineBit affine sBox
+sbox-table = record {
+  rule = λ b h. eqb→eq (getD table b 0) (affine (getD inverses b 0)) (at follows table tt b h) ∙ ap affine (inverse-at b h);
+}
+
+affine-small : ℕ → ℕ → Bool
+affine-small b x = ltb (invAffine b) 256
+
+invAffine-lt : (b : ℕ) → b < 256 → invAffine b < 256
+unfolding affine-small bit fromBits invAffineBit invAffine
+invAffine-lt b h = ltb→lt (invAffine b) 256 (at affine-small invTable tt b h)
+
+invFollows : ℕ → ℕ → Bool
+invFollows b x = eqb x (getD inverses (invAffine b) 0)
 
 pub inv-sbox-table : IsTable invSBox invTable
-unfolding follows xTimes product _•_ powers inverse bit fromBits invAffineBit invAffine invSBox
-inv-sbox-table = record { rule = λ b h. eqb→eq (getD invTable b 0) (invSBox b) (at (follows invSBox) invTable tt b h) }
+unfolding invFollows bit fromBits invAffineBit invAffine invSBox
+inv-sbox-table = record {
+  rule = λ b h.
+      eqb→eq (getD invTable b 0) (getD inverses (invAffine b) 0) (at invFollows invTable tt b h)
+      ∙ inverse-at (invAffine b) (invAffine-lt b h);
+}
 
 -- ---- one table undoes the other
 
