@@ -39,7 +39,6 @@ add-is a b h g =
     word-is (λ r. getD a r 0 ⊕ getD b r 0) (λ r. xor-byte (getD a r 0) (getD b r 0) (byte-at a h r) (byte-at b g r))
 
 sub-is : (a : Word) → IsBytes a → IsWord (subWord a)
-unfolding subWord
 sub-is a h = word-is (λ r. sBox (getD a r 0)) (λ r. sBox-lt (getD a r 0) (byte-at a h r))
 
 rot-is : (a : Word) → IsBytes a → IsWord (rotWord a)

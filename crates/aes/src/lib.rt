@@ -154,7 +154,7 @@ fn inv_middle_rounds(
     let mut x = s;
     let mut round = n;
     while 0 < round {
-        let substituted = state::inv_sub_bytes(table, state::inv_shift_rows(x));
+        let substituted = state::sub_bytes(table, state::inv_shift_rows(x));
         x = state::inv_mix_columns(state::add_round_key(substituted, round_key(w, round)));
         round -= 1;
     }
@@ -169,7 +169,7 @@ pub fn inv_cipher(size: KeySize, w: &[[u8; 4]; 60], s: [[u8; 4]; 4]) -> [[u8; 4]
     let first = state::add_round_key(s, round_key(w, last));
     let x = inv_middle_rounds(w, first, last - 1, &table);
     state::add_round_key(
-        state::inv_sub_bytes(&table, state::inv_shift_rows(x)),
+        state::sub_bytes(&table, state::inv_shift_rows(x)),
         round_key(w, 0),
     )
 }

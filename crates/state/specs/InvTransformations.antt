@@ -5,15 +5,11 @@ use lib.ListN.{getD}
 use Rattle.octets.specs.Bytes.{_⊕_, tabulate}
 use Rattle.sbox.specs.Field.{_•_}
 use Rattle.sbox.specs.SBox.{invSBox}
-use Rattle.state.specs.State.{Word, State, at, word, state}
+use Rattle.state.specs.State.{Word, State, at, state}
 
 -- 5.3.1: s'_(r,c) = s_(r, (c - r) mod 4)
 abbrev pub invShiftRows : State → State
 invShiftRows s = state (λ r c. at s r ((c + 4 - r) % 4))
-
--- the inverse S-box on each byte of a column
-unfoldable pub invSubWord : Word → Word
-invSubWord a = word (λ r. invSBox (getD a r 0))
 
 -- 5.3.2: s'_(r,c) = InvSBox(s_(r,c))
 abbrev pub invSubBytes : State → State

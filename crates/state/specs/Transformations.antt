@@ -8,7 +8,7 @@ use Rattle.sbox.specs.SBox.{sBox}
 use Rattle.state.specs.State.{Word, State, at, word, state}
 
 -- 5.2: SubWord, the S-box on each byte of a word
-unfoldable pub subWord : Word → Word
+abbrev pub subWord : Word → Word
 subWord a = word (λ r. sBox (getD a r 0))
 
 -- 5.1.1: s'_(r,c) = SBox(s_(r,c))

@@ -1,12 +1,13 @@
 // FIPS 197's State and the transformations of a round. The State is an array of columns: s[c][r] is the standard's s_(r,c).
 ghost use mathlib.Core.Path.{_≡_};
 ghost use Prim.Native.Nat.{ℕ};
+ghost use lib.ListN.{getD};
 ghost use Rattle.octets.specs.Bytes.{_⊕_};
 ghost use Rattle.sbox.specs.Field.{_•_};
-ghost use Rattle.sbox.specs.SBox.{IsTable, sBox, invSBox};
-ghost use Rattle.state.specs.State.{stateOf, bytesOf, addWord};
-ghost use Rattle.state.specs.Transformations.{subWord, subBytes, shiftRows, mixColumn, mixColumns, addRoundKey};
-ghost use Rattle.state.specs.InvTransformations.{invSubWord, invSubBytes, invShiftRows, invMixColumn, invMixColumns};
+ghost use Rattle.sbox.specs.SBox.{IsTable};
+ghost use Rattle.state.specs.State.{at, word, state, stateOf, bytesOf, addWord};
+ghost use Rattle.state.specs.Transformations.{shiftRows, mixColumn, mixColumns, addRoundKey};
+ghost use Rattle.state.specs.InvTransformations.{invShiftRows, invMixColumn, invMixColumns};
 
 pub fn state_of(input: [u8; 16]) -> [[u8; 4]; 4]
     ensures { λ s. ⌜ s ≡ stateOf input ⌝ }
@@ -49,9 +50,9 @@ fn look_up(table: &[u8; 256], b: u8) -> u8
     table[b as usize]
 }
 
+// SubWord, with the S-box's table.
 pub fn sub_word(table: &[u8; 256], a: [u8; 4]) -> [u8; 4]
-    requires { ⌜ IsTable sBox (now table) ⌝ }
-    ensures { λ r. ⌜ r ≡ subWord a ⌝ }
+    ensures { λ r. ⌜ ((f : ℕ → ℕ) → IsTable f (now (table .entry)) → r ≡ word (λ i. f (getD a i 0))) ⌝ }
 {
     [
         look_up(table, a[0]),
@@ -61,9 +62,9 @@ pub fn sub_word(table: &[u8; 256], a: [u8; 4]) -> [u8; 4]
     ]
 }
 
+// SubBytes with the S-box's table, InvSubBytes with the inverse S-box's.
 pub fn sub_bytes(table: &[u8; 256], s: [[u8; 4]; 4]) -> [[u8; 4]; 4]
-    requires { ⌜ IsTable sBox (now table) ⌝ }
-    ensures { λ r. ⌜ r ≡ subBytes s ⌝ }
+    ensures { λ r. ⌜ ((f : ℕ → ℕ) → IsTable f (now (table .entry)) → r ≡ state (λ r c. f (at s r c))) ⌝ }
 {
     [
         sub_word(table, s[0]),
@@ -143,30 +144,6 @@ pub fn inv_shift_rows(s: [[u8; 4]; 4]) -> [[u8; 4]; 4]
         [s[1][0], s[0][1], s[3][2], s[2][3]],
         [s[2][0], s[1][1], s[0][2], s[3][3]],
         [s[3][0], s[2][1], s[1][2], s[0][3]],
-    ]
-}
-
-fn inv_sub_word(table: &[u8; 256], a: [u8; 4]) -> [u8; 4]
-    requires { ⌜ IsTable invSBox (now table) ⌝ }
-    ensures { λ r. ⌜ r ≡ invSubWord a ⌝ }
-{
-    [
-        look_up(table, a[0]),
-        look_up(table, a[1]),
-        look_up(table, a[2]),
-        look_up(table, a[3]),
-    ]
-}
-
-pub fn inv_sub_bytes(table: &[u8; 256], s: [[u8; 4]; 4]) -> [[u8; 4]; 4]
-    requires { ⌜ IsTable invSBox (now table) ⌝ }
-    ensures { λ r. ⌜ r ≡ invSubBytes s ⌝ }
-{
-    [
-        inv_sub_word(table, s[0]),
-        inv_sub_word(table, s[1]),
-        inv_sub_word(table, s[2]),
-        inv_sub_word(table, s[3]),
     ]
 }
 

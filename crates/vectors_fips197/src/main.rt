@@ -209,7 +209,7 @@ fn inv_key_added(source: &[u8], round: usize, start: State, key: State) -> State
     let shifted = state::inv_shift_rows(start);
     step(source, round, b".is_row ", shifted);
     let table = sbox::inv_sbox();
-    let substituted = state::inv_sub_bytes(&table, shifted);
+    let substituted = state::sub_bytes(&table, shifted);
     step(source, round, b".is_box ", substituted);
     key_added(source, round, b".ik_sch ", substituted, key)
 }

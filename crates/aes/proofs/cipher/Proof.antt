@@ -2,6 +2,7 @@
 -- Assumes nothing.
 use borrow.Author.Needs.{needs}
 use native.Mathlib.Omega.{arith}
+use Rattle.sbox.specs.SBox.{sBox}
 use Rattle.aes.proofs.Sizes.{bounds}
 use Rattle.aes.proofs.Rounds.{cipher-whole}
 use Rattle.aes.proofs.cipher.Statement.{statement}
@@ -23,7 +24,7 @@ returns : tie.Need-returns
 returns c =
     let a = c .before .before .before .before .before .before .before .before .before .before .before .args in
     cipher-whole (a .w .now) (a .s) (c .before .before .before .before .before .before .before .before .before .rounds .ensures) (c .before .before .before .before .before .before .before .before .round-key .ensures) (c .before .before .before .before .before .before .before .add-round-key .ensures)
-    (c .before .before .before .before .before .middle-rounds .ensures) (c .before .before .before .sub-bytes .ensures) (c .before .before .shift-rows .ensures) (c .before .round-key2 .ensures)
+    (c .before .before .before .before .before .middle-rounds .ensures) (c .before .before .before .sub-bytes .ensures sBox (c .before .before .before .before .before .before .before .before .before .before .sbox .ensures)) (c .before .before .shift-rows .ensures) (c .before .round-key2 .ensures)
     (c .add-round-key2 .ensures)
 
 pub cipher-spec : {M : Type 1} → statement M

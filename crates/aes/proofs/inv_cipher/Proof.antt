@@ -2,6 +2,7 @@
 -- Assumes nothing.
 use borrow.Author.Needs.{needs}
 use native.Mathlib.Omega.{arith}
+use Rattle.sbox.specs.SBox.{invSBox}
 use Rattle.aes.proofs.Sizes.{bounds}
 use Rattle.aes.proofs.Rounds.{invCipher-whole}
 use Rattle.aes.proofs.inv_cipher.Statement.{statement}
@@ -22,7 +23,7 @@ returns : tie.Need-returns
 returns c =
     let a = c .before .before .before .before .before .before .before .before .before .before .before .args in
     invCipher-whole (a .w .now) (a .s) (c .before .before .before .before .before .before .before .before .before .rounds .ensures) (c .before .before .before .before .before .before .before .before .round-key .ensures) (c .before .before .before .before .before .before .before .add-round-key .ensures)
-    (c .before .before .before .before .before .inv-middle-rounds .ensures) (c .before .before .before .inv-shift-rows .ensures) (c .before .before .inv-sub-bytes .ensures)
+    (c .before .before .before .before .before .inv-middle-rounds .ensures) (c .before .before .before .inv-shift-rows .ensures) (c .before .before .sub-bytes .ensures invSBox (c .before .before .before .before .before .before .before .before .before .before .inv-sbox .ensures))
     (c .before .round-key2 .ensures) (c .add-round-key2 .ensures)
 
 pub inv-cipher-spec : {M : Type 1} → statement M

@@ -4,6 +4,7 @@ use borrow.Author.Needs.{needs}
 use mathlib.Core.Path.{_≡_, refl, _∙_}
 use Prim.Native.Nat.{_≤_, _-_}
 use native.Mathlib.Omega.{arith}
+use Rattle.sbox.specs.SBox.{invSBox}
 use Rattle.aes.specs.InvCipher.{invRounds}
 use Rattle.aes.proofs.Rounds.{invRounds-less}
 use Rattle.aes.proofs.inv_middle_rounds.Statement.{statement}
@@ -24,7 +25,7 @@ loop-again c =
     let L = c .before .before .before .before .before .before .loop in (
       omega arith,
       invRounds-less (a .w .now) (L .x) (L .round) (c .before .before .before .before .before .loop-test .taken) (c .before .before .before .before .inv-shift-rows .ensures)
-          (c .before .before .before .inv-sub-bytes .ensures) (c .before .before .round-key .ensures) (c .before .add-round-key .ensures) (c .inv-mix-columns .ensures)
+          (c .before .before .before .sub-bytes .ensures invSBox (c .before .before .before .before .before .before .before .pre .1)) (c .before .before .round-key .ensures) (c .before .add-round-key .ensures) (c .inv-mix-columns .ensures)
           ∙ L .inv .1,
     )
 

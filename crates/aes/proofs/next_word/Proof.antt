@@ -9,6 +9,7 @@ use native.Mathlib.Omega.{arith}
 use lib.ListN.{getD}
 use Rattle.state.specs.State.{addWord}
 use Rattle.state.specs.Transformations.{subWord}
+use Rattle.sbox.specs.SBox.{sBox}
 use Rattle.aes.proofs.Schedule.{quotient-least, quotient-most, temp-first, temp-fourth, temp-other, temp-short, next-key, next-sum}
 use Rattle.aes.proofs.next_word.Statement.{statement}
 use Rattle.aes.proofs.next_word.Tie as tie
@@ -29,7 +30,7 @@ returns-2 c =
     c .add-word2 .ensures
     ∙ ap (addWord (getD (a .w .now) (a .i - a .n) []))
     (c .before .add-word .ensures
-    ∙ ap₂ addWord (c .before .before .before .sub-word .ensures ∙ ap subWord (c .before .before .before .before .rot-word .ensures)) (c .before .before .round-constant .ensures)
+    ∙ ap₂ addWord (c .before .before .before .sub-word .ensures sBox (c .before .before .before .before .before .before .before .before .before .pre .0) ∙ ap subWord (c .before .before .before .before .rot-word .ensures)) (c .before .before .round-constant .ensures)
     ∙ temp-first (a .n) (a .i) t (c .before .before .before .before .before .if2 .taken))
     ∙ next-sum (a .n) (a .key .now) (a .w .now) (a .i) (c .before .before .before .before .before .before .before .before .if1 .left)
 
@@ -39,7 +40,7 @@ returns-3 c =
     let t = getD (a .w .now) (a .i - 1) [] in
     c .add-word3 .ensures
     ∙ ap (addWord (getD (a .w .now) (a .i - a .n) []))
-    (c .before .sub-word2 .ensures ∙ temp-fourth (a .n) (a .i) t (c .before .before .before .before .if2 .left) (c .before .before .before .if3 .taken) (c .before .before .if4 .taken))
+    (c .before .sub-word2 .ensures sBox (c .before .before .before .before .before .before .before .before .pre .0) ∙ temp-fourth (a .n) (a .i) t (c .before .before .before .before .if2 .left) (c .before .before .before .if3 .taken) (c .before .before .if4 .taken))
     ∙ next-sum (a .n) (a .key .now) (a .w .now) (a .i) (c .before .before .before .before .before .before .before .if1 .left)
 
 returns-4 : tie.Need-returns-4

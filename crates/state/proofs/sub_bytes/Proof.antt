@@ -2,17 +2,14 @@
 -- Assumes nothing.
 use borrow.Author.Needs.{needs}
 use Rattle.octets.proofs.Four.{four}
-use Rattle.state.specs.Transformations.{subWord}
 use Rattle.state.proofs.sub_bytes.Statement.{statement}
 use Rattle.state.proofs.sub_bytes.Tie as tie
 
 returns : tie.Need-returns
-unfolding subWord
 returns c =
-    four (c .before .before .before .before .before .before .sub-word .ensures)
-    (c .before .before .before .before .sub-word2 .ensures)
-    (c .before .before .sub-word3 .ensures)
-    (c .sub-word4 .ensures)
+    λ f follows.
+    four (c .before .before .before .before .before .before .sub-word .ensures f follows) (c .before .before .before .before .sub-word2 .ensures f follows) (c .before .before .sub-word3 .ensures f follows)
+    (c .sub-word4 .ensures f follows)
 
 pub sub-bytes-spec : {M : Type 1} → statement M
 sub-bytes-spec =
