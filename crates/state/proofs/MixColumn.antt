@@ -1,20 +1,18 @@
 -- The products of MixColumns and InvMixColumns as the code makes them, by repeated xTimes; and InvMixColumns undoes MixColumns.
 -- Assumes nothing.
 use mathlib.Core.Path.{_≡_, ap₂, _∙_}
-use mathlib.Core.Bool.{Bool}
-use mathlib.Core.List.{List, [], _∷_}
 use Prim.Native.Nat.{ℕ, zero, suc, _/_, _%_}
 use lib.Dec.{eqb}
 use lib.ListN.{getD, length}
 use Rattle.octets.specs.Bytes.{_⊕_}
 use Rattle.octets.specs.Choice.{if_then_else_}
-use Rattle.octets.proofs.Four.{four}
+use Rattle.octets.proofs.ListsOfFour.{four}
 use Rattle.octets.proofs.Tabulate.{tabulate-getD}
 use Rattle.sbox.specs.Field.{xTimes, product, _•_}
 use Rattle.state.specs.State.{Word}
 use Rattle.state.specs.Transformations.{mixColumn}
 use Rattle.state.specs.InvTransformations.{invMixColumn}
-use Rattle.state.proofs.Sums.{Sum, byte, none, plus, byX, value, equal}
+use Rattle.state.proofs.Sums.{Sum, byte, none, plus, byX, equal}
 
 -- ---- products
 

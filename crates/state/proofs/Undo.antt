@@ -1,21 +1,21 @@
 -- Each inverse transformation undoes its transformation on every State, and each transformation makes a State of a State.
 -- The cipher's round trip uses these. Assumes nothing.
 use mathlib.Core.Path.{_≡_, refl, sym, ap, _∙_, subst}
-use mathlib.Core.List.{List, []}
+use mathlib.Core.List.{[]}
 use Prim.Native.Nat.{ℕ, zero, suc, _+_, _*_, _/_, _%_, _<_}
 use native.Mathlib.Nat.{mod-lt, zero-lt-suc}
 use native.Mathlib.Omega.{arith}
 use lib.Dec.{lit<}
 use lib.ListN.{getD, length}
 use Rattle.octets.specs.Bytes.{Bytes, IsBytes, _⊕_, tabulate}
-use Rattle.octets.proofs.Tabulate.{tabulate-getD, tabulate-ext, getD-tabulate, length-tabulate}
+use Rattle.octets.proofs.Tabulate.{tabulate-getD, tabulate-ext, getD-tabulate}
 use Rattle.octets.proofs.Xor.{xor-byte, xor-undo}
 use Rattle.sbox.specs.Field.{_•_}
-use Rattle.sbox.specs.SBox.{sBox, invSBox}
+use Rattle.sbox.specs.SBox.{sBox}
 use Rattle.sbox.proofs.TableRule.{invSBox-sBox, sBox-lt}
 use Rattle.state.specs.State.{Word, State, at, state, stateOf, bytesOf, IsState}
 use Rattle.state.specs.Transformations.{subBytes, shiftRows, mixColumn, mixColumns, addRoundKey}
-use Rattle.state.specs.InvTransformations.{invSubBytes, invShiftRows, invMixColumn, invMixColumns}
+use Rattle.state.specs.InvTransformations.{invSubBytes, invShiftRows, invMixColumns}
 use Rattle.state.proofs.MixColumn.{invMixColumn-mixColumn}
 use Rattle.state.proofs.XTimes.{times-byte}
 

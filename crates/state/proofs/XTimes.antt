@@ -1,4 +1,4 @@
--- xTimes is linear, and keeps a byte a byte; so does every product. `Sums` and `InverseTransformations` use these.
+-- xTimes is linear, and keeps a byte a byte; so does every product. `Sums` and `Undo` use these.
 -- Assumes nothing.
 use mathlib.Core.Path.{_≡_, refl, sym, ap, ap₂, _∙_}
 use mathlib.Core.Bool.{Bool, true, false}

@@ -1,6 +1,6 @@
 -- FIPS 197, 5.3: the transformations of the State in a round of the inverse cipher. Assumes nothing.
 use mathlib.Core.List.{[], _∷_}
-use Prim.Native.Nat.{ℕ, _+_, _-_, _%_}
+use Prim.Native.Nat.{_+_, _-_, _%_}
 use lib.ListN.{getD}
 use Rattle.octets.specs.Bytes.{_⊕_, tabulate}
 use Rattle.sbox.specs.Field.{_•_}

@@ -2,13 +2,13 @@
 ghost use mathlib.Core.Path.{_≡_};
 ghost use Prim.Native.Nat.{ℕ};
 ghost use lib.ListN.{getD};
-ghost use Rattle.octets.specs.Bytes.{_⊕_};
 ghost use Rattle.sbox.specs.Field.{_•_};
 ghost use Rattle.sbox.specs.SBox.{IsTable};
 ghost use Rattle.state.specs.State.{at, word, state, stateOf, bytesOf, addWord};
 ghost use Rattle.state.specs.Transformations.{shiftRows, mixColumn, mixColumns, addRoundKey};
 ghost use Rattle.state.specs.InvTransformations.{invShiftRows, invMixColumn, invMixColumns};
 
+// FIPS 197, 3.4: the State of 16 bytes, column by column.
 pub fn state_of(input: [u8; 16]) -> [[u8; 4]; 4]
     ensures { λ s. ⌜ s ≡ stateOf input ⌝ }
 {
@@ -20,6 +20,7 @@ pub fn state_of(input: [u8; 16]) -> [[u8; 4]; 4]
     ]
 }
 
+// FIPS 197, 3.4: the 16 bytes of a State.
 pub fn bytes_of(s: [[u8; 4]; 4]) -> [u8; 16]
     ensures { λ output. ⌜ output ≡ bytesOf s ⌝ }
 {
@@ -45,14 +46,14 @@ pub fn bytes_of(s: [[u8; 4]; 4]) -> [u8; 16]
 
 // The byte's entry: f b for each rule f that the table follows.
 fn look_up(table: &[u8; 256], b: u8) -> u8
-    ensures { λ r. ⌜ ((f : ℕ → ℕ) → IsTable f (now (table .entry)) → r ≡ f b) ⌝ }
+    ensures { λ result. ⌜ ((f : ℕ → ℕ) → IsTable f (now (table .entry)) → result ≡ f b) ⌝ }
 {
     table[b as usize]
 }
 
-// SubWord, with the S-box's table.
+// FIPS 197, 5.2: SubWord, with the S-box's table.
 pub fn sub_word(table: &[u8; 256], a: [u8; 4]) -> [u8; 4]
-    ensures { λ r. ⌜ ((f : ℕ → ℕ) → IsTable f (now (table .entry)) → r ≡ word (λ i. f (getD a i 0))) ⌝ }
+    ensures { λ result. ⌜ ((f : ℕ → ℕ) → IsTable f (now (table .entry)) → result ≡ word (λ i. f (getD a i 0))) ⌝ }
 {
     [
         look_up(table, a[0]),
@@ -62,9 +63,9 @@ pub fn sub_word(table: &[u8; 256], a: [u8; 4]) -> [u8; 4]
     ]
 }
 
-// SubBytes with the S-box's table, InvSubBytes with the inverse S-box's.
+// FIPS 197, 5.1.1 and 5.3.2: SubBytes with the S-box's table, InvSubBytes with the inverse S-box's.
 pub fn sub_bytes(table: &[u8; 256], s: [[u8; 4]; 4]) -> [[u8; 4]; 4]
-    ensures { λ r. ⌜ ((f : ℕ → ℕ) → IsTable f (now (table .entry)) → r ≡ state (λ r c. f (at s r c))) ⌝ }
+    ensures { λ result. ⌜ ((f : ℕ → ℕ) → IsTable f (now (table .entry)) → result ≡ state (λ r c. f (at s r c))) ⌝ }
 {
     [
         sub_word(table, s[0]),
@@ -74,8 +75,9 @@ pub fn sub_bytes(table: &[u8; 256], s: [[u8; 4]; 4]) -> [[u8; 4]; 4]
     ]
 }
 
+// FIPS 197, 5.1.2: ShiftRows.
 pub fn shift_rows(s: [[u8; 4]; 4]) -> [[u8; 4]; 4]
-    ensures { λ r. ⌜ r ≡ shiftRows s ⌝ }
+    ensures { λ result. ⌜ result ≡ shiftRows s ⌝ }
 {
     [
         [s[0][0], s[1][1], s[2][2], s[3][3]],
@@ -85,20 +87,22 @@ pub fn shift_rows(s: [[u8; 4]; 4]) -> [[u8; 4]; 4]
     ]
 }
 
+// The products of MixColumns.
 fn times_02(a: u8) -> u8
-    ensures { λ r. ⌜ r ≡ 2 • a ⌝ }
+    ensures { λ result. ⌜ result ≡ 2 • a ⌝ }
 {
     sbox::x_times(a)
 }
 
 fn times_03(a: u8) -> u8
-    ensures { λ r. ⌜ r ≡ 3 • a ⌝ }
+    ensures { λ result. ⌜ result ≡ 3 • a ⌝ }
 {
     sbox::x_times(a) ^ a
 }
 
+// FIPS 197, 5.1.3: one column.
 fn mix_column(s: [u8; 4]) -> [u8; 4]
-    ensures { λ r. ⌜ r ≡ mixColumn s ⌝ }
+    ensures { λ result. ⌜ result ≡ mixColumn s ⌝ }
 {
     [
         times_02(s[0]) ^ times_03(s[1]) ^ s[2] ^ s[3],
@@ -108,8 +112,9 @@ fn mix_column(s: [u8; 4]) -> [u8; 4]
     ]
 }
 
+// FIPS 197, 5.1.3: MixColumns.
 pub fn mix_columns(s: [[u8; 4]; 4]) -> [[u8; 4]; 4]
-    ensures { λ r. ⌜ r ≡ mixColumns s ⌝ }
+    ensures { λ result. ⌜ result ≡ mixColumns s ⌝ }
 {
     [
         mix_column(s[0]),
@@ -119,14 +124,16 @@ pub fn mix_columns(s: [[u8; 4]; 4]) -> [[u8; 4]; 4]
     ]
 }
 
+// The sum of two words.
 pub fn add_word(a: [u8; 4], b: [u8; 4]) -> [u8; 4]
-    ensures { λ r. ⌜ r ≡ addWord a b ⌝ }
+    ensures { λ result. ⌜ result ≡ addWord a b ⌝ }
 {
     [a[0] ^ b[0], a[1] ^ b[1], a[2] ^ b[2], a[3] ^ b[3]]
 }
 
+// FIPS 197, 5.1.4: AddRoundKey.
 pub fn add_round_key(s: [[u8; 4]; 4], k: [[u8; 4]; 4]) -> [[u8; 4]; 4]
-    ensures { λ r. ⌜ r ≡ addRoundKey s k ⌝ }
+    ensures { λ result. ⌜ result ≡ addRoundKey s k ⌝ }
 {
     [
         add_word(s[0], k[0]),
@@ -136,8 +143,9 @@ pub fn add_round_key(s: [[u8; 4]; 4], k: [[u8; 4]; 4]) -> [[u8; 4]; 4]
     ]
 }
 
+// FIPS 197, 5.3.1: InvShiftRows.
 pub fn inv_shift_rows(s: [[u8; 4]; 4]) -> [[u8; 4]; 4]
-    ensures { λ r. ⌜ r ≡ invShiftRows s ⌝ }
+    ensures { λ result. ⌜ result ≡ invShiftRows s ⌝ }
 {
     [
         [s[0][0], s[3][1], s[2][2], s[1][3]],
@@ -147,8 +155,9 @@ pub fn inv_shift_rows(s: [[u8; 4]; 4]) -> [[u8; 4]; 4]
     ]
 }
 
+// The products of InvMixColumns, by repeated doubling.
 fn times_09(a: u8) -> u8
-    ensures { λ r. ⌜ r ≡ 0x09 • a ⌝ }
+    ensures { λ result. ⌜ result ≡ 0x09 • a ⌝ }
 {
     let a2 = sbox::x_times(a);
     let a4 = sbox::x_times(a2);
@@ -157,7 +166,7 @@ fn times_09(a: u8) -> u8
 }
 
 fn times_0b(a: u8) -> u8
-    ensures { λ r. ⌜ r ≡ 0x0b • a ⌝ }
+    ensures { λ result. ⌜ result ≡ 0x0b • a ⌝ }
 {
     let a2 = sbox::x_times(a);
     let a4 = sbox::x_times(a2);
@@ -166,7 +175,7 @@ fn times_0b(a: u8) -> u8
 }
 
 fn times_0d(a: u8) -> u8
-    ensures { λ r. ⌜ r ≡ 0x0d • a ⌝ }
+    ensures { λ result. ⌜ result ≡ 0x0d • a ⌝ }
 {
     let a2 = sbox::x_times(a);
     let a4 = sbox::x_times(a2);
@@ -175,7 +184,7 @@ fn times_0d(a: u8) -> u8
 }
 
 fn times_0e(a: u8) -> u8
-    ensures { λ r. ⌜ r ≡ 0x0e • a ⌝ }
+    ensures { λ result. ⌜ result ≡ 0x0e • a ⌝ }
 {
     let a2 = sbox::x_times(a);
     let a4 = sbox::x_times(a2);
@@ -183,8 +192,9 @@ fn times_0e(a: u8) -> u8
     a8 ^ a4 ^ a2
 }
 
+// FIPS 197, 5.3.3: one column.
 fn inv_mix_column(s: [u8; 4]) -> [u8; 4]
-    ensures { λ r. ⌜ r ≡ invMixColumn s ⌝ }
+    ensures { λ result. ⌜ result ≡ invMixColumn s ⌝ }
 {
     [
         times_0e(s[0]) ^ times_0b(s[1]) ^ times_0d(s[2]) ^ times_09(s[3]),
@@ -194,8 +204,9 @@ fn inv_mix_column(s: [u8; 4]) -> [u8; 4]
     ]
 }
 
+// FIPS 197, 5.3.3: InvMixColumns.
 pub fn inv_mix_columns(s: [[u8; 4]; 4]) -> [[u8; 4]; 4]
-    ensures { λ r. ⌜ r ≡ invMixColumns s ⌝ }
+    ensures { λ result. ⌜ result ≡ invMixColumns s ⌝ }
 {
     [
         inv_mix_column(s[0]),

@@ -1,7 +1,7 @@
 -- `inv_mix_column` meets its contract: each entry is its row of products.
 -- Assumes nothing.
 use borrow.Author.Needs.{needs}
-use Rattle.octets.proofs.Four.{four}
+use Rattle.octets.proofs.ListsOfFour.{four}
 use Rattle.state.proofs.MixColumn.{sum}
 use Rattle.state.specs.InvTransformations.{invMixColumn}
 use Rattle.state.proofs.inv_mix_column.Statement.{statement}

@@ -4,7 +4,7 @@ use borrow.Author.Needs.{needs}
 use mathlib.Core.Path.{_≡_, refl}
 use Prim.Native.Nat.{ℕ}
 use lib.ListN.{getD}
-use Rattle.octets.proofs.Four.{four}
+use Rattle.octets.proofs.ListsOfFour.{four}
 use Rattle.state.proofs.MixColumn.{sum}
 use Rattle.state.specs.Transformations.{mixColumn}
 use Rattle.state.proofs.mix_column.Statement.{statement}
