@@ -18,7 +18,7 @@ use Rattle.sbox.specs.SBox.{sBox}
 use Rattle.sbox.proofs.TableRule.{sBox-lt}
 use Rattle.state.specs.State.{Word, word, addWord, IsState}
 use Rattle.state.specs.Transformations.{subWord}
-use Rattle.state.proofs.XTimes.{xTimes-byte}
+use Rattle.columns.proofs.XTimes.{xTimes-byte}
 use Rattle.aes.specs.KeySizes.{nk, nr}
 use Rattle.aes.specs.KeyExpansion.{rotWord, xPower, rcon, temp, keyWord, nextWord, words, keyExpansion, schedule}
 use Rattle.aes.specs.Cipher.{roundKey}

@@ -3,7 +3,7 @@ use mathlib.Core.Path.{_≡_}
 use Prim.Native.Nat.{ℕ, zero, suc, _+_, _*_, _/_, _%_, _^_, _<_}
 use lib.ListN.{getD}
 use Rattle.octets.specs.Bytes.{Bytes}
-use Rattle.sbox.specs.Field.{_•_}
+use Rattle.field.specs.Field.{_•_}
 
 -- b • b^2 • b^4 • .., n factors: b to the power 2^n - 1
 unfoldable pub powers : ℕ → ℕ → ℕ

@@ -1,13 +1,13 @@
 // FIPS 197's S-box and its inverse: as tables, and as the rule that the tables follow.
 mod tables;
 
+use field::multiply;
 use tables::INV_SBOX;
 use tables::SBOX;
 ghost use mathlib.Core.Path.{_≡_};
 ghost use Prim.Native.Nat.{_%_};
 ghost use lib.Bits.{bitAnd};
 ghost use lib.Count.{ones};
-ghost use Rattle.sbox.specs.Field.{xTimes, _•_};
 ghost use Rattle.sbox.specs.SBox.{IsTable, powers, inverse, affine, sBox, invSBox};
 
 // The S-box's table. A caller that looks up many bytes takes it once and lends it.
@@ -22,30 +22,6 @@ pub fn inv_sbox() -> [u8; 256]
     ensures { λ table. ⌜ IsTable invSBox table ⌝ }
 {
     INV_SBOX
-}
-
-// b times x.
-pub fn x_times(b: u8) -> u8
-    ensures { λ result. ⌜ result ≡ xTimes b ⌝ }
-{
-    (b << 1) ^ (b / 128 % 2 * 0x1b)
-}
-
-// b times a.
-pub fn multiply(b: u8, a: u8) -> u8
-    ensures { λ result. ⌜ result ≡ b • a ⌝ }
-{
-    let mut sum: u8 = 0;
-    let mut bits = b;
-    let mut shifted = a;
-    let mut left: usize = 8;
-    while 0 < left {
-        sum = sum ^ (bits % 2 * shifted);
-        bits = bits / 2;
-        shifted = x_times(shifted);
-        left -= 1;
-    }
-    sum
 }
 
 // b to the power 2^n - 1.
