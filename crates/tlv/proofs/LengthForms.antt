@@ -1,15 +1,17 @@
 -- The three forms of a length field; and a length that was written is read again, in its shortest form.
 -- Assumes nothing.
 use mathlib.Core.Path.{_≡_, refl, ap, ap₂, _∙_}
-use mathlib.Core.Bool.{Bool, true}
+use mathlib.Core.Bool.{Bool, true, false}
 use mathlib.Core.List.{[], _∷_, _++_}
 use Prim.Native.Nat.{ℕ, suc, _+_, _*_, _/_, _%_, _<_, _≤_}
 use native.Mathlib.Nat.{add-zero}
 use native.Mathlib.Omega.{arith}
-use borrow.Author.Tests.{eq-eqb, ne-eqb, lt-ltb, le-ltb}
+use borrow.Author.Tests.{eq-eqb, ne-eqb, lt-ltb, le-ltb, ltb-true}
+use lib.Dec.{eqb, ltb}
 use lib.ListN.{length, getD, length-append}
 use lib.Seq.{getD-append-add}
 use Rattle.octets.specs.Bytes.{Bytes}
+use Rattle.octets.specs.Choice.{if_then_else_}
 use Rattle.octets.proofs.ByteStrings.{by-test}
 use Rattle.tlv.specs.Length.{lengthField, readLength, isShortest}
 use Rattle.tlv.specs.declared.LengthRead.{LengthRead}
@@ -94,3 +96,26 @@ module _ (front back : Bytes) (n : ℕ) where
           (read-three xs (length front) (omega (arith, size f)) (first f)
           ∙ ap₂ (λ (a b : ℕ). Length (a * 256 + b) 3) (at-front f 1) (at-front f 2)
           ∙ ap (λ (m : ℕ). Length m 3) e)
+
+-- ---- a length field that is read stands within the string
+
+no-form : {n size : ℕ} {P : Type 0} → BadForm ≡ Length n size → P
+no-form e = let z : _≡_ {A = ℕ} 0 1 = cc in let o : ⊥ = omega arith in absurd o
+
+pub read-within : (xs : Bytes) (at n size : ℕ) → readLength xs at ≡ Length n size → at + size ≤ length xs
+unfolding readLength
+read-within xs at n size e =
+    by (ltb at (length xs)) refl (ltb (getD xs at 0) 128) (eqb (getD xs at 0) 0x81) (ltb (at + 1) (length xs)) refl
+    (eqb (getD xs at 0) 0x82) (ltb (at + 2) (length xs)) refl e
+  where
+    by : (s : Bool) → ltb at (length xs) ≡ s → (t u v : Bool) → ltb (at + 1) (length xs) ≡ v → (x y : Bool) → ltb (at + 2) (length xs) ≡ y
+        → (if s then (if t then Length (getD xs at 0) 1 else if u then (if v then Length (getD xs (at + 1) 0) 2 else BadForm) else
+          if x then (if y then Length (getD xs (at + 1) 0 * 256 + getD xs (at + 2) 0) 3 else BadForm) else BadForm) else BadForm)
+        ≡ Length n size → at + size ≤ length xs
+    by false p t u v q x y r f = no-form f
+    by true p true u v q x y r f = let z : 1 ≡ size = cc in omega (arith, ltb-true at (length xs) p)
+    by true p false true true q x y r f = let z : 2 ≡ size = cc in omega (arith, ltb-true (at + 1) (length xs) q)
+    by true p false true false q x y r f = no-form f
+    by true p false false v q true true r f = let z : 3 ≡ size = cc in omega (arith, ltb-true (at + 2) (length xs) r)
+    by true p false false v q true false r f = no-form f
+    by true p false false v q false y r f = no-form f
