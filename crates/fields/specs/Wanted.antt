@@ -1,5 +1,5 @@
 -- Document 01, "Objects, encryption and MAC": what each side's field may hold. Assumes nothing.
-use mathlib.Core.Bool.{Bool, true, false, _&&_}
+use mathlib.Core.Bool.{Bool, true, false, _&&_, not}
 use Prim.Native.Nat.{ℕ, _+_, _-_, _%_}
 use lib.Dec.{eqb, ltb, leb}
 use lib.ListN.{getD}
@@ -15,6 +15,12 @@ abbrev pub may : Need → Bool
 may Must = true
 may May = true
 may MustNot = false
+
+-- whether an object that must be there isn't
+abbrev pub lacks : Need → Bool → Bool
+lacks Must there = not there
+lacks May there = false
+lacks MustNot there = false
 
 -- the second object's tag, length and need
 abbrev pub tagOf : Second → ℕ

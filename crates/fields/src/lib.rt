@@ -6,8 +6,9 @@ use tlv::read_length;
 ghost use mathlib.Core.Path.{_≡_};
 ghost use Prim.Native.Nat.{_+_, _<_, _≤_};
 ghost use lib.ListN.{length, getD};
-ghost use Rattle.fields.specs.Wanted.{may, tagOf, sizeOf, needOf, rank, allowed, rightSize, rightSecond, rightValue};
-ghost use Rattle.fields.specs.Object.{readObject, withLength};
+ghost use Rattle.fields.specs.Wanted.{may, lacks, tagOf, sizeOf, needOf, rank, allowed, rightSize, rightSecond, rightValue};
+ghost use Rattle.fields.specs.Object.{readObject};
+ghost use Rattle.fields.specs.Field.{noted, refused, ended, readField};
 
 // Whether an object must, may or must not be there.
 pub enum Need {
@@ -38,19 +39,25 @@ pub enum Rule {
     Value,
 }
 
+// A rule that is broken: the tag last read, and the index of the tag, length or value that breaks it.
+pub struct Breach {
+    pub rule: Rule,
+    pub tag: u8,
+    pub offset: usize,
+}
+
+// A data object of a field: where it starts, where its value stands, and where the next one starts.
+pub struct DataObject {
+    pub tag: u8,
+    pub start: usize,
+    pub value: usize,
+    pub len: usize,
+    pub next: usize,
+}
+
 pub enum ObjectRead {
-    Object {
-        tag: u8,
-        value: usize,
-        len: usize,
-        next: usize,
-    },
-    // The rule, the tag, and the index of the tag, length or value that breaks it.
-    Malformed {
-        rule: Rule,
-        tag: u8,
-        offset: usize,
-    },
+    Object(DataObject),
+    Malformed(Breach),
 }
 
 fn second_tag(second: Second) -> u8
@@ -214,20 +221,138 @@ pub fn read_object(wanted: Wanted, after: usize, bytes: &[u8], at: usize) -> Obj
     if !right_value(wanted, tag, bytes, value) {
         return malformed(Rule::Value, tag, value);
     }
-    ObjectRead::Object {
+    ObjectRead::Object(DataObject {
         tag,
+        start: at,
         value,
         len: n,
         next: value + n,
-    }
+    })
 }
 
 fn malformed(rule: Rule, tag: u8, offset: usize) -> ObjectRead
-    ensures { λ r. ⌜ r ≡ ObjectRead.Malformed rule tag offset ⌝ }
+    ensures { λ r. ⌜ r ≡ ObjectRead.Malformed (record { rule = rule; tag = tag; offset = offset }) ⌝ }
 {
-    ObjectRead::Malformed {
-        rule,
-        tag,
-        offset,
+    ObjectRead::Malformed(Breach { rule, tag, offset })
+}
+
+// What stands in a field. '87', if it is there, stands first.
+pub struct Objects {
+    // The encrypted data, behind the padding-content indicator byte; no bytes where there is no '87'.
+    pub ciphertext: usize,
+    pub ciphertext_len: usize,
+    // Whether '97' or '99' is there.
+    pub second: bool,
+    // Where '8E' starts, which the MAC does not cover, and its eight bytes.
+    pub mac_start: usize,
+    pub mac: usize,
+}
+
+pub enum FieldRead {
+    Read(Objects),
+    // The first breach.
+    Malformed(Breach),
+    // No breach, but an object is lacking: the first one in the side's list, and the field's end.
+    Missing(u8, usize),
+}
+
+// The objects with one more.
+fn noted(objects: Objects, object: DataObject) -> Objects
+    requires { ⌜ (1 ≤ object .len) × (object .value + object .len ≡ object .next) ⌝ }
+    ensures { λ r. ⌜ r ≡ noted objects object ⌝ }
+{
+    if object.tag == 0x87 {
+        return Objects {
+            ciphertext: object.value + 1,
+            ciphertext_len: object.len - 1,
+            second: objects.second,
+            mac_start: objects.mac_start,
+            mac: objects.mac,
+        };
     }
+    if object.tag == 0x8E {
+        return Objects {
+            ciphertext: objects.ciphertext,
+            ciphertext_len: objects.ciphertext_len,
+            second: objects.second,
+            mac_start: object.start,
+            mac: object.value,
+        };
+    }
+    Objects {
+        ciphertext: objects.ciphertext,
+        ciphertext_len: objects.ciphertext_len,
+        second: true,
+        mac_start: objects.mac_start,
+        mac: objects.mac,
+    }
+}
+
+// What a reading that gave no object, or an object that was not wanted, ends the walk with.
+fn refused(read: ObjectRead) -> FieldRead
+    ensures { λ r. ⌜ r ≡ refused read ⌝ }
+{
+    match read {
+        ObjectRead::Malformed(breach) => FieldRead::Malformed(breach),
+        ObjectRead::Object(object) => FieldRead::Malformed(Breach {
+            rule: Rule::Tag,
+            tag: object.tag,
+            offset: object.start,
+        }),
+    }
+}
+
+fn lacks(need: Need, there: bool) -> bool
+    ensures { λ r. ⌜ r ≡ lacks need there ⌝ }
+{
+    match need {
+        Need::Must => !there,
+        Need::May => false,
+        Need::MustNot => false,
+    }
+}
+
+// At the field's end, after an object at place `after`: the objects, or the first that is lacking.
+fn ended(wanted: Wanted, objects: Objects, after: usize, end: usize) -> FieldRead
+    ensures { λ r. ⌜ r ≡ ended wanted objects after end ⌝ }
+{
+    let data = wanted.data;
+    let second = wanted.second;
+    if lacks(data, 0 < objects.ciphertext_len) {
+        return FieldRead::Missing(0x87, end);
+    }
+    if lacks(second_need(second), objects.second) {
+        return FieldRead::Missing(second_tag(second), end);
+    }
+    if after < 3 {
+        return FieldRead::Missing(0x8E, end);
+    }
+    FieldRead::Read(objects)
+}
+
+// The objects of a field, or the first breach, or the first object that is lacking.
+pub fn read_field(wanted: Wanted, field: &[u8]) -> FieldRead
+    ensures { λ r. ⌜ r ≡ readField wanted (now (field .entry)) ⌝ }
+{
+    let second = wanted.second;
+    let mut objects = Objects {
+        ciphertext: 0,
+        ciphertext_len: 0,
+        second: false,
+        mac_start: 0,
+        mac: 0,
+    };
+    let mut place: usize = 0;
+    let mut at: usize = 0;
+    while at < field.len() {
+        let read = read_object(wanted, place, field, at);
+        let ObjectRead::Object(object) = read else {
+            return refused(read);
+        };
+        let more = noted(objects, object);
+        objects = more;
+        place = rank(second, object.tag);
+        at = object.next;
+    }
+    ended(wanted, objects, place, field.len())
 }

@@ -110,7 +110,7 @@ read-within xs at n size e =
   where
     by : (s : Bool) → ltb at (length xs) ≡ s → (t u v : Bool) → ltb (at + 1) (length xs) ≡ v → (x y : Bool) → ltb (at + 2) (length xs) ≡ y
         → (if s then (if t then Length (getD xs at 0) 1 else if u then (if v then Length (getD xs (at + 1) 0) 2 else BadForm) else
-          if x then (if y then Length (getD xs (at + 1) 0 * 256 + getD xs (at + 2) 0) 3 else BadForm) else BadForm) else BadForm)
+        if x then (if y then Length (getD xs (at + 1) 0 * 256 + getD xs (at + 2) 0) 3 else BadForm) else BadForm) else BadForm)
         ≡ Length n size → at + size ≤ length xs
     by false p t u v q x y r f = no-form f
     by true p true u v q x y r f = let z : 1 ≡ size = cc in omega (arith, ltb-true at (length xs) p)
