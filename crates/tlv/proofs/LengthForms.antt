@@ -7,7 +7,7 @@ use Prim.Native.Nat.{ℕ, suc, _+_, _*_, _/_, _%_, _<_, _≤_}
 use native.Mathlib.Nat.{add-zero}
 use native.Mathlib.Omega.{arith}
 use borrow.Author.Tests.{eq-eqb, ne-eqb, lt-ltb, le-ltb, ltb-true}
-use lib.Dec.{eqb, ltb}
+use lib.Dec.{eqb, ltb, lit≤}
 use lib.ListN.{length, getD, length-append}
 use lib.Seq.{getD-append-add}
 use Rattle.octets.specs.Bytes.{Bytes}
@@ -119,3 +119,12 @@ read-within xs at n size e =
     by true p false false v q true true r f = let z : 3 ≡ size = cc in omega (arith, ltb-true (at + 2) (length xs) r)
     by true p false false v q true false r f = no-form f
     by true p false false v q false y r f = no-form f
+
+pub length-field-most : (n : ℕ) → length (lengthField n) ≤ 3
+unfolding lengthField
+length-field-most n = go (ltb n 128) (ltb n 256)
+  where
+    go : (s t : Bool) → length (if s then n ∷ [] else if t then 0x81 ∷ n ∷ [] else 0x82 ∷ n / 256 ∷ n % 256 ∷ []) ≤ 3
+    go true t = lit≤ tt
+    go false true = lit≤ tt
+    go false false = lit≤ tt
