@@ -21,7 +21,7 @@ compare: build/compare
 
 # tables.rt stands 16 to a row, as in the standard; the formatter would put each entry on its own line.
 format: build
-	@rt fmt --check >build/format 2>&1 || test $$? -eq 1
+	@rt fmt --check >build/format 2>&1 || test -s build/format
 	@! grep -v '/crates/sbox/src/tables.rt is not in the layout$$' build/format
 
 build/compare build/bench: build/%: c/%.c c/plain_aes.c c/plain_aes.h c/primitives.h build/libprimitives.a

@@ -3,7 +3,8 @@
  *     compare [SEED]
  *
  * All buffers of a case stand in one arena of random bytes, with random bytes around each. The arena as it
- * must be after the call is made first; then the call is made and the whole arena compared. So an output
+ * must be after the call is made first; then the call is made and the arena compared, the random bytes behind
+ * the last buffer included. So an output
  * that is wrong, a byte written beside a buffer and an input that changed all show in the same way.
  */
 #include "plain_aes.h"

@@ -1,10 +1,10 @@
 /* AES, CBC and CMAC, for keys of 16 and of 32 bytes (AES-128 and AES-256).
  *
- *     uint8_t key[16], iv[16], data[160], mac[16];
+ *     uint8_t enc_key[16], mac_key[16], iv[16], data[160], mac[16];
  *     ...
- *     if (pivsm_cbc_encrypt(key, sizeof key, iv, sizeof iv, data, sizeof data) != PIVSM_OK)
+ *     if (pivsm_cbc_encrypt(enc_key, sizeof enc_key, iv, sizeof iv, data, sizeof data) != PIVSM_OK)
  *         return -1;
- *     if (pivsm_cmac(key, sizeof key, iv, sizeof iv, data, sizeof data, mac, sizeof mac) != PIVSM_OK)
+ *     if (pivsm_cmac(mac_key, sizeof mac_key, iv, sizeof iv, data, sizeof data, mac, sizeof mac) != PIVSM_OK)
  *         return -1;
  *
  * Each call takes its key as bytes and expands it anew. Nothing is kept between calls and nothing is

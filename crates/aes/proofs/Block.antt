@@ -5,13 +5,9 @@ use mathlib.Core.List.{List}
 use lib.ListN.{length}
 use Rattle.octets.specs.Bytes.{Bytes}
 use Rattle.state.specs.State.{Word}
-use Rattle.aes.specs.Aes.{ciph, invCiph}
+use Rattle.aes.specs.Aes.{ciph}
 use Rattle.aes.specs.declared.KeySize.{KeySize}
 
 pub length-ciph : (size : KeySize) (w : List Word) (block : Bytes) → length (ciph size w block) ≡ 16
 unfolding ciph
 length-ciph size w block = refl
-
-pub length-invCiph : (size : KeySize) (w : List Word) (block : Bytes) → length (invCiph size w block) ≡ 16
-unfolding invCiph
-length-invCiph size w block = refl

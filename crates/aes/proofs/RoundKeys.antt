@@ -1,6 +1,6 @@
 -- Every round key of an expanded key is four columns of four bytes, whatever the key.
 -- Assumes nothing.
-use mathlib.Core.Path.{_≡_, refl, sym, ap, _∙_, subst}
+use mathlib.Core.Path.{_≡_, refl, sym, _∙_, subst}
 use mathlib.Core.Bool.{Bool, true, false, _&&_}
 use mathlib.Core.List.{List, [], _∷_, _++_}
 use Prim.Native.Nat.{ℕ, zero, suc, _+_, _*_, _-_, _/_, _%_, _<_, _≤_}
@@ -16,9 +16,9 @@ use Rattle.octets.proofs.Tabulate.{getD-tabulate}
 use Rattle.octets.proofs.Xor.{xor-byte}
 use Rattle.sbox.specs.SBox.{sBox}
 use Rattle.sbox.proofs.TableRule.{sBox-lt}
-use Rattle.state.specs.State.{Word, State, word, addWord, IsState}
+use Rattle.state.specs.State.{Word, word, addWord, IsState}
 use Rattle.state.specs.Transformations.{subWord}
-use Rattle.state.proofs.XTimes.{xTimes-byte}
+use Rattle.columns.proofs.XTimes.{xTimes-byte}
 use Rattle.aes.specs.KeySizes.{nk, nr}
 use Rattle.aes.specs.KeyExpansion.{rotWord, xPower, rcon, temp, keyWord, nextWord, words, keyExpansion, schedule}
 use Rattle.aes.specs.Cipher.{roundKey}

@@ -14,7 +14,7 @@ use lib.Seq.{set-at}
 use Rattle.octets.specs.Bytes.{Bytes, zeros}
 use Rattle.octets.proofs.ByteStrings.{by-test}
 use Rattle.octets.proofs.Table.{at}
-use Rattle.sbox.specs.Field.{xTimes}
+use Rattle.field.specs.Field.{xTimes}
 use Rattle.state.specs.State.{Word, addWord}
 use Rattle.state.specs.Transformations.{subWord}
 use Rattle.aes.specs.KeyExpansion.{rotWord, xPower, rcon, temp, keyWord, nextWord, words}

@@ -1,7 +1,7 @@
 -- What the key sizes have in common: four to eight words of key, and six rounds more than words.
 -- Assumes nothing.
 use mathlib.Core.Path.{_≡_, refl}
-use Prim.Native.Nat.{ℕ, _+_, _≤_}
+use Prim.Native.Nat.{_+_, _≤_}
 use lib.Dec.{lit≤}
 use Rattle.aes.specs.KeySizes.{nk, nr}
 use Rattle.aes.specs.declared.KeySize.{KeySize}

@@ -16,7 +16,8 @@ ciph size w block = bytesOf (cipher (nr size) w (stateOf block))
 unfoldable pub invCiph : KeySize → List Word → Bytes → Bytes
 invCiph size w block = bytesOf (invCipher (nr size) w (stateOf block))
 
--- AES-128(in, key) = Cipher(in, 10, KeyExpansion(key)), and so for 256; a 128-bit key is the first 16 of the 32 bytes
+-- AES-128(in, key) = Cipher(in, 10, KeyExpansion(key)), and AES-256 likewise with 14 rounds. A 128-bit key is the first 16
+-- of the 32 bytes. The schedule is KeyExpansion(key) and, behind it, words that no round reads
 unfoldable pub aes : KeySize → Bytes → Bytes → Bytes
 aes size key block = ciph size (schedule size key) block
 

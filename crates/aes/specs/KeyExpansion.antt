@@ -3,10 +3,10 @@ use mathlib.Core.Bool.{_&&_}
 use mathlib.Core.List.{List, [], _∷_, _++_}
 use Prim.Native.Nat.{ℕ, zero, suc, _+_, _*_, _-_, _/_, _%_}
 use lib.Dec.{eqb, ltb}
-use lib.ListN.{getD, replicate, take}
+use lib.ListN.{getD, replicate}
 use Rattle.octets.specs.Bytes.{Bytes, zeros}
 use Rattle.octets.specs.Choice.{if_then_else_}
-use Rattle.sbox.specs.Field.{xTimes}
+use Rattle.field.specs.Field.{xTimes}
 use Rattle.state.specs.State.{Word, word, addWord}
 use Rattle.state.specs.Transformations.{subWord}
 use Rattle.aes.specs.KeySizes.{nk, nr}

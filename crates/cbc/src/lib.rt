@@ -18,6 +18,7 @@ pub enum Outcome {
     PartialBlock,
 }
 
+// C_j = CIPH_K(P_j ⊕ C_(j-1)), each block over its own.
 fn encrypt_blocks(size: KeySize, w: &[[u8; 4]; 60], iv: [u8; 16], data: &mut [u8])
     requires { ⌜ length (now «data») % 16 ≡ 0 ⌝ }
     ensures { λ _. ⌜ now («data» .exit) ≡ cbcEncrypt (ciph size (now (w .entry))) iv (now («data» .entry)) ⌝ }
@@ -34,6 +35,7 @@ fn encrypt_blocks(size: KeySize, w: &[[u8; 4]; 60], iv: [u8; 16], data: &mut [u8
     }
 }
 
+// P_j = CIPH_K^-1(C_j) ⊕ C_(j-1); the ciphertext block is kept before it is written over.
 fn decrypt_blocks(size: KeySize, w: &[[u8; 4]; 60], iv: [u8; 16], data: &mut [u8])
     requires { ⌜ length (now «data») % 16 ≡ 0 ⌝ }
     ensures { λ _. ⌜ now («data» .exit) ≡ cbcDecrypt (invCiph size (now (w .entry))) iv (now («data» .entry)) ⌝ }
@@ -51,8 +53,9 @@ fn decrypt_blocks(size: KeySize, w: &[[u8; 4]; 60], iv: [u8; 16], data: &mut [u8
     }
 }
 
+// CBC encryption of whole blocks.
 pub fn encrypt(size: KeySize, w: &[[u8; 4]; 60], iv: [u8; 16], data: &mut [u8]) -> Outcome
-    ensures answer { λ r. ⌜ r ≡ outcome (now («data» .entry)) ⌝ }
+    ensures answer { λ result. ⌜ result ≡ outcome (now («data» .entry)) ⌝ }
     ensures buffer { λ _. ⌜ now («data» .exit) ≡ ifWhole (cbcEncrypt (ciph size (now (w .entry))) iv) (now («data» .entry)) ⌝ }
 {
     if data.len() % 16 != 0 {
@@ -62,8 +65,9 @@ pub fn encrypt(size: KeySize, w: &[[u8; 4]; 60], iv: [u8; 16], data: &mut [u8]) 
     Outcome::Done
 }
 
+// CBC decryption of whole blocks.
 pub fn decrypt(size: KeySize, w: &[[u8; 4]; 60], iv: [u8; 16], data: &mut [u8]) -> Outcome
-    ensures answer { λ r. ⌜ r ≡ outcome (now («data» .entry)) ⌝ }
+    ensures answer { λ result. ⌜ result ≡ outcome (now («data» .entry)) ⌝ }
     ensures buffer { λ _. ⌜ now («data» .exit) ≡ ifWhole (cbcDecrypt (invCiph size (now (w .entry))) iv) (now («data» .entry)) ⌝ }
 {
     if data.len() % 16 != 0 {

@@ -13,7 +13,7 @@ use Rattle.octets.specs.Bytes.{Bytes, zeros, _xor_}
 use Rattle.octets.proofs.XorBytes.{xor-bytes-comm, xor-bytes-assoc, xor-start}
 use Rattle.cmac.specs.declared.Cmac.{Cmac}
 use Rattle.cmac.specs.Cmac.{Cipher, subkey1, subkey2, blockCount, block, lastBlock, chain, cmac}
-use Rattle.cmac.specs.Running.{start, flush, add, absorb, finish}
+use Rattle.cmac.specs.Running.{start, flush, absorb, finish}
 use Rattle.cmac.proofs.BlockByBlock.{state, absorb-append, absorb-part, absorb-block, absorb-flush}
 
 module _ (ciph : Cipher) (length-ciph : (x : Bytes) → length (ciph x) ≡ 16) where

@@ -14,7 +14,7 @@ const R128: [u8; 16] = [0, 0, 0, 0, 0, 0, 0, 0, 0, 0, 0, 0, 0, 0, 0, 0x87];
 
 // x << 1
 fn shift_left(x: [u8; 16]) -> [u8; 16]
-    ensures { λ r. ⌜ r ≡ shiftLeft x ⌝ }
+    ensures { λ result. ⌜ result ≡ shiftLeft x ⌝ }
 {
     let mut r = [0u8; 16];
     let mut i: usize = 0;
@@ -28,7 +28,7 @@ fn shift_left(x: [u8; 16]) -> [u8; 16]
 
 // A subkey from the value before it: x << 1, and R128 added where the top bit of x is 1.
 fn double(x: [u8; 16]) -> [u8; 16]
-    ensures { λ r. ⌜ r ≡ double x ⌝ }
+    ensures { λ result. ⌜ result ≡ double x ⌝ }
 {
     let shifted = shift_left(x);
     let first = x[0];
@@ -107,7 +107,7 @@ impl Cmac {
     // Absorbs a whole block where one begins and is there, else a byte.
     fn absorb_some(self, size: KeySize, w: &[[u8; 4]; 60], data: &[u8], at: usize) -> Step
         requires { ⌜ at < length (now «data») ⌝ }
-        ensures { λ r. ⌜ Absorbed (ciph size (now (w .entry))) self (now («data» .entry)) at (r .state) (r .next) ⌝ }
+        ensures { λ step. ⌜ Absorbed (ciph size (now (w .entry))) self (now («data» .entry)) at (step .state) (step .next) ⌝ }
     {
         let flushed = self.flush(size, w);
         let chain = flushed.chain;

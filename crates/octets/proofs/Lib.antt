@@ -2,6 +2,6 @@ pub mod Xor
 pub mod XorBytes
 pub mod Table
 pub mod Tabulate
-pub mod Four
+pub mod ListsOfFour
 pub mod ByteStrings
 pub mod Writing

@@ -1,13 +1,13 @@
 -- The laws of `over`, `put` and `Wrote`: what a buffer holds after one write, after several, and after all.
 -- Assumes nothing.
-use Prim.Native.Nat.{ℕ, suc, _+_, _-_, _≤_, _<_}
+use Prim.Native.Nat.{ℕ, _+_, _≤_, _<_}
 use mathlib.Core.Path.{_≡_, refl, sym, ap, _∙_}
 use mathlib.Core.List.{[], _∷_, _++_, append-assoc, append-nil}
 use native.Mathlib.Nat.{add-zero, zero-add, add-assoc}
 use native.Mathlib.Omega.{arith}
-use lib.ListN.{length, take, drop, getD, set, length-append, length-drop, length-take, take-append-drop, drop-of-length-le}
+use lib.ListN.{length, take, getD, set, length-append, length-drop, take-append-drop, drop-of-length-le}
 use native.Mathlib.Numerals.{add-one}
-use lib.Seq.{set-split, take-all, length-take-le, take-append-seam, drop-append-add, drop-drop, take-length, paste, paste-zero, paste-suc}
+use lib.Seq.{set-split, take-all, length-take-le, take-append-seam, drop-append-add, drop-drop, paste, paste-zero, paste-suc}
 use Rattle.octets.specs.Bytes.{Bytes}
 use Rattle.octets.specs.Write.{over, put, Wrote}
 

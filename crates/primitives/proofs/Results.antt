@@ -9,18 +9,15 @@ use borrow.Author.Tests.{eqb-true}
 use lib.Dec.{eqb}
 use lib.ListN.{length}
 use Rattle.octets.specs.Bytes.{Bytes, zeros}
-use Rattle.octets.specs.Choice.{if_then_else_}
 use Rattle.octets.specs.Write.{over, Wrote}
 use Rattle.octets.proofs.Writing.{wrote-all, over-full}
 use Rattle.aes.specs.Aes.{ciph}
 use Rattle.aes.specs.declared.KeySize.{KeySize}
-use Rattle.aes.specs.declared.KeySize.the-variants.{Aes128, Aes256}
 use Rattle.cmac.specs.Cmac.{cmac}
 use Rattle.cmac.specs.Running.{start, absorb, finish}
 use Rattle.cmac.specs.declared.Cmac.{Cmac}
 use Rattle.cmac.proofs.Theorems.{absorb-append, cmac-aes}
 use Rattle.primitives.specs.Calls.{keySize, withKey, answer, buffer}
-use Rattle.primitives.specs.declared.Key.{Key}
 use Rattle.primitives.specs.declared.Key.the-variants.{Of, BadLength}
 
 pub key-fits : (n : ℕ) (size : KeySize) → keySize n ≡ Of size → n ≤ 32

@@ -1,13 +1,18 @@
 -- The calls of c/primitives.h: AES, CBC and CMAC under a key of 16 or 32 bytes. Assumes nothing.
-use mathlib.Core.Bool.{Bool}
+use mathlib.Core.Bool.{Bool, _&&_}
+use mathlib.Core.List.{_++_}
 use Prim.Native.Nat.{ℕ}
 use lib.Dec.{eqb}
 use lib.ListN.{length}
 use Rattle.octets.specs.Bytes.{Bytes, zeros}
 use Rattle.octets.specs.Choice.{if_then_else_}
 use Rattle.octets.specs.Write.{over}
+use Rattle.aes.specs.Aes.{aes, invAes}
 use Rattle.aes.specs.declared.KeySize.{KeySize}
 use Rattle.aes.specs.declared.KeySize.the-variants.{Aes128, Aes256}
+use Rattle.cbc.specs.Cbc.{cbcEncrypt, cbcDecrypt}
+use Rattle.cbc.specs.Whole.{whole}
+use Rattle.cmac.specs.Cmac.{cmac}
 use Rattle.primitives.specs.declared.Key.{Key}
 use Rattle.primitives.specs.declared.Key.the-variants.{Of, BadLength}
 
@@ -15,8 +20,9 @@ use Rattle.primitives.specs.declared.Key.the-variants.{Of, BadLength}
 unfoldable pub keySize : ℕ → Key
 keySize n = if eqb n 16 then Of Aes128 else if eqb n 32 then Of Aes256 else BadLength
 
-abbrev pub isBlock : Bytes → Bool
-isBlock b = eqb (length b) 16
+-- as long as a block
+abbrev pub blockLong : Bytes → Bool
+blockLong b = eqb (length b) 16
 
 unfoldable pub withKey : {A : Type 0} → Key → A → (KeySize → A) → A
 withKey BadLength bad good = bad
@@ -30,3 +36,29 @@ answer key lengths = withKey (keySize (length key)) 12 (λ size. if lengths then
 unfoldable pub buffer : Bytes → Bool → (KeySize → Bytes → Bytes) → Bytes → Bytes
 buffer key lengths result held =
     withKey (keySize (length key)) held (λ size. if lengths then result size (over (zeros 32) key) else held)
+
+-- what each call answers, and what its buffer holds afterwards
+
+abbrev pub aesAnswer : Bytes → Bytes → ℕ
+aesAnswer key block = answer key (blockLong block)
+
+abbrev pub aesEncryptBuffer : Bytes → Bytes → Bytes
+aesEncryptBuffer key block = buffer key (blockLong block) (λ size k. aes size k block) block
+
+abbrev pub aesDecryptBuffer : Bytes → Bytes → Bytes
+aesDecryptBuffer key block = buffer key (blockLong block) (λ size k. invAes size k block) block
+
+abbrev pub cbcAnswer : Bytes → Bytes → Bytes → ℕ
+cbcAnswer key iv xs = answer key (blockLong iv && whole xs)
+
+abbrev pub cbcEncryptBuffer : Bytes → Bytes → Bytes → Bytes
+cbcEncryptBuffer key iv xs = buffer key (blockLong iv && whole xs) (λ size k. cbcEncrypt (aes size k) iv xs) xs
+
+abbrev pub cbcDecryptBuffer : Bytes → Bytes → Bytes → Bytes
+cbcDecryptBuffer key iv xs = buffer key (blockLong iv && whole xs) (λ size k. cbcDecrypt (invAes size k) iv xs) xs
+
+abbrev pub cmacAnswer : Bytes → Bytes → ℕ
+cmacAnswer key mac = answer key (blockLong mac)
+
+abbrev pub cmacBuffer : Bytes → Bytes → Bytes → Bytes → Bytes
+cmacBuffer key head rest mac = buffer key (blockLong mac) (λ size k. cmac (aes size k) (head ++ rest)) mac

@@ -5,18 +5,13 @@ use cmac::Cmac;
 use octets::block_at;
 use octets::put_bytes;
 ghost use mathlib.Core.Path.{_≡_};
-ghost use mathlib.Core.Bool.{_&&_};
-ghost use mathlib.Core.List.{_++_};
 ghost use Prim.Native.Nat.{_≤_};
 ghost use lib.ListN.{length};
 ghost use Rattle.octets.specs.Bytes.{zeros};
 ghost use Rattle.octets.specs.Write.{over};
 ghost use Rattle.aes.specs.KeyExpansion.{schedule};
-ghost use Rattle.cbc.specs.Cbc.{cbcEncrypt, cbcDecrypt};
-ghost use Rattle.cbc.specs.Whole.{whole};
-ghost use Rattle.cmac.specs.Cmac.{cmac};
-ghost use Rattle.aes.specs.Aes.{aes, invAes};
-ghost use Rattle.primitives.specs.Calls.{keySize, isBlock, answer, buffer};
+ghost use Rattle.primitives.specs.Calls.{keySize, aesAnswer, aesEncryptBuffer, aesDecryptBuffer};
+ghost use Rattle.primitives.specs.Calls.{cbcAnswer, cbcEncryptBuffer, cbcDecryptBuffer, cmacAnswer, cmacBuffer};
 
 const DONE: u32 = 0;
 
@@ -30,7 +25,7 @@ enum Key {
 }
 
 fn key_size(len: usize) -> Key
-    ensures { λ r. ⌜ r ≡ keySize len ⌝ }
+    ensures { λ result. ⌜ result ≡ keySize len ⌝ }
 {
     if len == 16 {
         return Key::Of(KeySize::Aes128);
@@ -52,8 +47,8 @@ fn expanded(size: KeySize, key: &[u8]) -> [[u8; 4]; 60]
 
 #[no_mangle]
 pub extern "C" fn pivsm_aes_encrypt(key: &[u8], block: &mut [u8]) -> u32
-    ensures answer { λ r. ⌜ r ≡ answer (now (key .entry)) (isBlock (now (block .entry))) ⌝ }
-    ensures buffer { λ _. ⌜ now (block .exit) ≡ buffer (now (key .entry)) (isBlock (now (block .entry))) (λ size k. aes size k (now (block .entry))) (now (block .entry)) ⌝ }
+    ensures answer { λ result. ⌜ result ≡ aesAnswer (now (key .entry)) (now (block .entry)) ⌝ }
+    ensures buffer { λ _. ⌜ now (block .exit) ≡ aesEncryptBuffer (now (key .entry)) (now (block .entry)) ⌝ }
 {
     let Key::Of(size) = key_size(key.len()) else {
         return BAD_KEY_LENGTH;
@@ -69,8 +64,8 @@ pub extern "C" fn pivsm_aes_encrypt(key: &[u8], block: &mut [u8]) -> u32
 
 #[no_mangle]
 pub extern "C" fn pivsm_aes_decrypt(key: &[u8], block: &mut [u8]) -> u32
-    ensures answer { λ r. ⌜ r ≡ answer (now (key .entry)) (isBlock (now (block .entry))) ⌝ }
-    ensures buffer { λ _. ⌜ now (block .exit) ≡ buffer (now (key .entry)) (isBlock (now (block .entry))) (λ size k. invAes size k (now (block .entry))) (now (block .entry)) ⌝ }
+    ensures answer { λ result. ⌜ result ≡ aesAnswer (now (key .entry)) (now (block .entry)) ⌝ }
+    ensures buffer { λ _. ⌜ now (block .exit) ≡ aesDecryptBuffer (now (key .entry)) (now (block .entry)) ⌝ }
 {
     let Key::Of(size) = key_size(key.len()) else {
         return BAD_KEY_LENGTH;
@@ -86,8 +81,8 @@ pub extern "C" fn pivsm_aes_decrypt(key: &[u8], block: &mut [u8]) -> u32
 
 #[no_mangle]
 pub extern "C" fn pivsm_cbc_encrypt(key: &[u8], iv: &[u8], data: &mut [u8]) -> u32
-    ensures answer { λ r. ⌜ r ≡ answer (now (key .entry)) (isBlock (now (iv .entry)) && whole (now («data» .entry))) ⌝ }
-    ensures buffer { λ _. ⌜ now («data» .exit) ≡ buffer (now (key .entry)) (isBlock (now (iv .entry)) && whole (now («data» .entry))) (λ size k. cbcEncrypt (aes size k) (now (iv .entry)) (now («data» .entry))) (now («data» .entry)) ⌝ }
+    ensures answer { λ result. ⌜ result ≡ cbcAnswer (now (key .entry)) (now (iv .entry)) (now («data» .entry)) ⌝ }
+    ensures buffer { λ _. ⌜ now («data» .exit) ≡ cbcEncryptBuffer (now (key .entry)) (now (iv .entry)) (now («data» .entry)) ⌝ }
 {
     let Key::Of(size) = key_size(key.len()) else {
         return BAD_KEY_LENGTH;
@@ -104,8 +99,8 @@ pub extern "C" fn pivsm_cbc_encrypt(key: &[u8], iv: &[u8], data: &mut [u8]) -> u
 
 #[no_mangle]
 pub extern "C" fn pivsm_cbc_decrypt(key: &[u8], iv: &[u8], data: &mut [u8]) -> u32
-    ensures answer { λ r. ⌜ r ≡ answer (now (key .entry)) (isBlock (now (iv .entry)) && whole (now («data» .entry))) ⌝ }
-    ensures buffer { λ _. ⌜ now («data» .exit) ≡ buffer (now (key .entry)) (isBlock (now (iv .entry)) && whole (now («data» .entry))) (λ size k. cbcDecrypt (invAes size k) (now (iv .entry)) (now («data» .entry))) (now («data» .entry)) ⌝ }
+    ensures answer { λ result. ⌜ result ≡ cbcAnswer (now (key .entry)) (now (iv .entry)) (now («data» .entry)) ⌝ }
+    ensures buffer { λ _. ⌜ now («data» .exit) ≡ cbcDecryptBuffer (now (key .entry)) (now (iv .entry)) (now («data» .entry)) ⌝ }
 {
     let Key::Of(size) = key_size(key.len()) else {
         return BAD_KEY_LENGTH;
@@ -123,8 +118,8 @@ pub extern "C" fn pivsm_cbc_decrypt(key: &[u8], iv: &[u8], data: &mut [u8]) -> u
 // The MAC of head followed by rest.
 #[no_mangle]
 pub extern "C" fn pivsm_cmac(key: &[u8], head: &[u8], rest: &[u8], mac: &mut [u8]) -> u32
-    ensures answer { λ r. ⌜ r ≡ answer (now (key .entry)) (isBlock (now (mac .entry))) ⌝ }
-    ensures buffer { λ _. ⌜ now (mac .exit) ≡ buffer (now (key .entry)) (isBlock (now (mac .entry))) (λ size k. cmac (aes size k) (now (head .entry) ++ now (rest .entry))) (now (mac .entry)) ⌝ }
+    ensures answer { λ result. ⌜ result ≡ cmacAnswer (now (key .entry)) (now (mac .entry)) ⌝ }
+    ensures buffer { λ _. ⌜ now (mac .exit) ≡ cmacBuffer (now (key .entry)) (now (head .entry)) (now (rest .entry)) (now (mac .entry)) ⌝ }
 {
     let Key::Of(size) = key_size(key.len()) else {
         return BAD_KEY_LENGTH;

@@ -7,7 +7,7 @@ use native.Mathlib.Nat.{lt-irrefl}
 use lib.Dec.{eqb, eqb→eq}
 use lib.ListN.{getD}
 use Rattle.octets.proofs.Table.{at-byte}
-use Rattle.sbox.specs.Field.{xTimes, product, _•_}
+use Rattle.field.specs.Field.{xTimes, product, _•_}
 use Rattle.sbox.specs.SBox.{inverse}
 use Rattle.sbox.proofs.Inverses.{inverses, inverse-at}
 

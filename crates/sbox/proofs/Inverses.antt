@@ -8,7 +8,7 @@ use lib.Dec.{eqb, eqb→eq}
 use lib.ListN.{getD}
 use Rattle.octets.specs.Bytes.{Bytes}
 use Rattle.octets.proofs.Table.{at}
-use Rattle.sbox.specs.Field.{xTimes, product, _•_}
+use Rattle.field.specs.Field.{xTimes, product, _•_}
 use Rattle.sbox.specs.SBox.{powers, inverse}
 
 abbrev pub inverses : Bytes

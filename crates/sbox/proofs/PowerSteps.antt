@@ -3,7 +3,7 @@
 use mathlib.Core.Path.{_≡_, refl, ap}
 use Prim.Native.Nat.{ℕ, zero, suc, _-_}
 use native.Mathlib.Omega.{arith}
-use Rattle.sbox.specs.Field.{_•_}
+use Rattle.field.specs.Field.{_•_}
 use Rattle.sbox.specs.SBox.{powers}
 
 pub powers-none : (n b : ℕ) → n ≡ 0 → 1 ≡ powers n b

@@ -3,7 +3,7 @@ use mathlib.Core.Path.{_≡_}
 use Prim.Native.Nat.{ℕ, zero, suc, _+_, _*_, _/_, _%_, _^_, _<_}
 use lib.ListN.{getD}
 use Rattle.octets.specs.Bytes.{Bytes}
-use Rattle.sbox.specs.Field.{_•_}
+use Rattle.field.specs.Field.{_•_}
 
 -- b • b^2 • b^4 • .., n factors: b to the power 2^n - 1
 unfoldable pub powers : ℕ → ℕ → ℕ
@@ -18,7 +18,7 @@ inverse b = powers 7 (b • b)
 unfoldable pub bit : ℕ → ℕ → ℕ
 bit b i = b / 2 ^ i % 2
 
--- (5.2), c = {63}: b'_i = b_i ⊕ b_(i+4) ⊕ b_(i+5) ⊕ b_(i+6) ⊕ b_(i+7) ⊕ c_i, the indices modulo 8
+-- 5.1.1, the affine map, c = {63}: b'_i = b_i ⊕ b_(i+4) ⊕ b_(i+5) ⊕ b_(i+6) ⊕ b_(i+7) ⊕ c_i, the indices modulo 8
 unfoldable pub affineBit : ℕ → ℕ → ℕ
 affineBit b i =
     (bit b i + bit b ((i + 4) % 8) + bit b ((i + 5) % 8) + bit b ((i + 6) % 8) + bit b ((i + 7) % 8) + bit 0x63 i) % 2
@@ -35,14 +35,15 @@ affine b = fromBits 8 (affineBit b)
 unfoldable pub sBox : ℕ → ℕ
 sBox b = affine (inverse b)
 
--- the inverse of the affine map: b'_i = b_(i+2) ⊕ b_(i+5) ⊕ b_(i+7) ⊕ d_i, d = {05}
+-- the affine map undone: b'_i = b_(i+2) ⊕ b_(i+5) ⊕ b_(i+7) ⊕ d_i, d = {05}
 unfoldable pub invAffineBit : ℕ → ℕ → ℕ
 invAffineBit b i = (bit b ((i + 2) % 8) + bit b ((i + 5) % 8) + bit b ((i + 7) % 8) + bit 0x05 i) % 2
 
 unfoldable pub invAffine : ℕ → ℕ
 invAffine b = fromBits 8 (invAffineBit b)
 
--- 5.3.2: the inverse of the affine map, and then the inverse
+-- 5.3.2: InvSBox is SBox with inputs and outputs switched. Here it is the affine map undone and then the inverse;
+-- `invSBox-sBox` in proofs/TableRule.antt shows that this is the same
 unfoldable pub invSBox : ℕ → ℕ
 invSBox b = inverse (invAffine b)
 

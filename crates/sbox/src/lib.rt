@@ -1,13 +1,13 @@
 // FIPS 197's S-box and its inverse: as tables, and as the rule that the tables follow.
 mod tables;
 
+use field::multiply;
 use tables::INV_SBOX;
 use tables::SBOX;
 ghost use mathlib.Core.Path.{_≡_};
 ghost use Prim.Native.Nat.{_%_};
 ghost use lib.Bits.{bitAnd};
 ghost use lib.Count.{ones};
-ghost use Rattle.sbox.specs.Field.{xTimes, _•_};
 ghost use Rattle.sbox.specs.SBox.{IsTable, powers, inverse, affine, sBox, invSBox};
 
 // The S-box's table. A caller that looks up many bytes takes it once and lends it.
@@ -17,39 +17,16 @@ pub fn sbox() -> [u8; 256]
     SBOX
 }
 
+// The inverse S-box's table.
 pub fn inv_sbox() -> [u8; 256]
     ensures { λ table. ⌜ IsTable invSBox table ⌝ }
 {
     INV_SBOX
 }
 
-// b times x.
-pub fn x_times(b: u8) -> u8
-    ensures { λ r. ⌜ r ≡ xTimes b ⌝ }
-{
-    (b << 1) ^ (b / 128 % 2 * 0x1b)
-}
-
-// b times a.
-pub fn multiply(b: u8, a: u8) -> u8
-    ensures { λ r. ⌜ r ≡ b • a ⌝ }
-{
-    let mut sum: u8 = 0;
-    let mut bits = b;
-    let mut shifted = a;
-    let mut left: usize = 8;
-    while 0 < left {
-        sum = sum ^ (bits % 2 * shifted);
-        bits = bits / 2;
-        shifted = x_times(shifted);
-        left -= 1;
-    }
-    sum
-}
-
 // b to the power 2^n - 1.
 fn powers(n: usize, b: u8) -> u8
-    ensures { λ r. ⌜ r ≡ powers n b ⌝ }
+    ensures { λ result. ⌜ result ≡ powers n b ⌝ }
 {
     if n == 0 {
         return 1;
@@ -59,21 +36,21 @@ fn powers(n: usize, b: u8) -> u8
 
 // b^254: the multiplicative inverse, and 0 at 0.
 pub fn inverse(b: u8) -> u8
-    ensures { λ r. ⌜ r ≡ inverse b ⌝ }
+    ensures { λ result. ⌜ result ≡ inverse b ⌝ }
 {
     powers(7, multiply(b, b))
 }
 
 // The sum modulo 2 of the bits of b that the mask selects.
 fn parity(b: u8, mask: u8) -> u8
-    ensures { λ r. ⌜ r ≡ ones (bitAnd b mask) % 2 ⌝ }
+    ensures { λ result. ⌜ result ≡ ones (bitAnd b mask) % 2 ⌝ }
 {
     (u8::count_ones(b & mask) % 2) as u8
 }
 
 // Bit i of the result is the sum of bits i, i+4, i+5, i+6, i+7 of b: the mask of bit 0, turned left by i.
 pub fn affine(b: u8) -> u8
-    ensures { λ r. ⌜ r ≡ affine b ⌝ }
+    ensures { λ result. ⌜ result ≡ affine b ⌝ }
 {
     let low = parity(b, 0xf1) + parity(b, 0xe3) * 2 + parity(b, 0xc7) * 4 + parity(b, 0x8f) * 8;
     let high = parity(b, 0x1f) * 16
@@ -85,7 +62,7 @@ pub fn affine(b: u8) -> u8
 
 // The S-box by its rule, with no table.
 pub fn sbox_rule(b: u8) -> u8
-    ensures { λ r. ⌜ r ≡ sBox b ⌝ }
+    ensures { λ result. ⌜ result ≡ sBox b ⌝ }
 {
     affine(inverse(b))
 }

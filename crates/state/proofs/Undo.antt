@@ -1,23 +1,21 @@
 -- Each inverse transformation undoes its transformation on every State, and each transformation makes a State of a State.
 -- The cipher's round trip uses these. Assumes nothing.
 use mathlib.Core.Path.{_≡_, refl, sym, ap, _∙_, subst}
-use mathlib.Core.List.{List, []}
-use Prim.Native.Nat.{ℕ, zero, suc, _+_, _*_, _/_, _%_, _<_}
+use mathlib.Core.List.{[]}
+use Prim.Native.Nat.{ℕ, _+_, _*_, _/_, _%_, _<_}
 use native.Mathlib.Nat.{mod-lt, zero-lt-suc}
 use native.Mathlib.Omega.{arith}
-use lib.Dec.{lit<}
 use lib.ListN.{getD, length}
 use Rattle.octets.specs.Bytes.{Bytes, IsBytes, _⊕_, tabulate}
-use Rattle.octets.proofs.Tabulate.{tabulate-getD, tabulate-ext, getD-tabulate, length-tabulate}
+use Rattle.octets.proofs.Tabulate.{tabulate-getD, tabulate-ext, getD-tabulate}
 use Rattle.octets.proofs.Xor.{xor-byte, xor-undo}
-use Rattle.sbox.specs.Field.{_•_}
-use Rattle.sbox.specs.SBox.{sBox, invSBox}
+use Rattle.sbox.specs.SBox.{sBox}
 use Rattle.sbox.proofs.TableRule.{invSBox-sBox, sBox-lt}
+use Rattle.columns.specs.MixColumn.{mixColumn}
 use Rattle.state.specs.State.{Word, State, at, state, stateOf, bytesOf, IsState}
-use Rattle.state.specs.Transformations.{subBytes, shiftRows, mixColumn, mixColumns, addRoundKey}
-use Rattle.state.specs.InvTransformations.{invSubBytes, invShiftRows, invMixColumn, invMixColumns}
-use Rattle.state.proofs.MixColumn.{invMixColumn-mixColumn}
-use Rattle.state.proofs.XTimes.{times-byte}
+use Rattle.state.specs.Transformations.{subBytes, shiftRows, mixColumns, addRoundKey}
+use Rattle.state.specs.InvTransformations.{invSubBytes, invShiftRows, invMixColumns}
+use Rattle.columns.proofs.MixColumn.{invMixColumn-mixColumn, mixColumn-byte}
 
 -- ---- a State by its bytes
 
@@ -64,32 +62,6 @@ shiftRows-is s h =
 pub invMixColumns-mixColumns : (s : State) → IsState s → invMixColumns (mixColumns s) ≡ s
 invMixColumns-mixColumns s h =
     tabulate-ext 4 (λ c hc. invMixColumn-mixColumn (getD s c []) (h .rows c hc)) ∙ tabulate-getD [] 4 s (h .columns)
-
-mixColumn-byte : (a : Word) → ((r : ℕ) → r < 4 → getD a r 0 < 256) → (r : ℕ) → r < 4 → getD (mixColumn a) r 0 < 256
-unfolding mixColumn
-mixColumn-byte a h r hr = row r hr
-  where
-    a0 : ℕ
-    a0 = getD a 0 0
-
-    a1 : ℕ
-    a1 = getD a 1 0
-
-    a2 : ℕ
-    a2 = getD a 2 0
-
-    a3 : ℕ
-    a3 = getD a 3 0
-
-    sum : (w x y z : ℕ) → w < 256 → x < 256 → y < 256 → z < 256 → w ⊕ x ⊕ y ⊕ z < 256
-    sum w x y z hw hx hy hz = xor-byte (w ⊕ x ⊕ y) z (xor-byte (w ⊕ x) y (xor-byte w x hw hx) hy) hz
-
-    row : (r : ℕ) → r < 4 → getD (mixColumn a) r 0 < 256
-    row zero k = sum (2 • a0) (3 • a1) a2 a3 (times-byte 2 a0 (h 0 (lit< tt))) (times-byte 3 a1 (h 1 (lit< tt))) (h 2 (lit< tt)) (h 3 (lit< tt))
-    row (suc zero) k = sum a0 (2 • a1) (3 • a2) a3 (h 0 (lit< tt)) (times-byte 2 a1 (h 1 (lit< tt))) (times-byte 3 a2 (h 2 (lit< tt))) (h 3 (lit< tt))
-    row (suc (suc zero)) k = sum a0 a1 (2 • a2) (3 • a3) (h 0 (lit< tt)) (h 1 (lit< tt)) (times-byte 2 a2 (h 2 (lit< tt))) (times-byte 3 a3 (h 3 (lit< tt)))
-    row (suc (suc (suc zero))) k = sum (3 • a0) a1 a2 (2 • a3) (times-byte 3 a0 (h 0 (lit< tt))) (h 1 (lit< tt)) (h 2 (lit< tt)) (times-byte 2 a3 (h 3 (lit< tt)))
-    row (suc (suc (suc (suc n)))) k = let z : ⊥ = omega arith in absurd z
 
 pub mixColumns-is : (s : State) → IsState s → IsState (mixColumns s)
 unfolding mixColumn

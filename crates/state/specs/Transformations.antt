@@ -1,10 +1,10 @@
 -- FIPS 197, 5.1: the transformations of the State in a round of the cipher. Assumes nothing.
-use mathlib.Core.List.{[], _∷_}
-use Prim.Native.Nat.{ℕ, _+_, _%_}
+use mathlib.Core.List.{[]}
+use Prim.Native.Nat.{_+_, _%_}
 use lib.ListN.{getD}
 use Rattle.octets.specs.Bytes.{_⊕_, tabulate}
-use Rattle.sbox.specs.Field.{_•_}
 use Rattle.sbox.specs.SBox.{sBox}
+use Rattle.columns.specs.MixColumn.{mixColumn}
 use Rattle.state.specs.State.{Word, State, at, word, state}
 
 -- 5.2: SubWord, the S-box on each byte of a word
@@ -18,19 +18,6 @@ subBytes s = state (λ r c. sBox (at s r c))
 -- 5.1.2: s'_(r,c) = s_(r, (c + r) mod 4)
 abbrev pub shiftRows : State → State
 shiftRows s = state (λ r c. at s r ((c + r) % 4))
-
--- 5.1.3: a column times the matrix of {02}, {03}, {01}, {01}
-unfoldable pub mixColumn : Word → Word
-mixColumn s =
-    let s0 = getD s 0 0 in
-    let s1 = getD s 1 0 in
-    let s2 = getD s 2 0 in
-    let s3 = getD s 3 0 in
-    (2 • s0 ⊕ 3 • s1 ⊕ s2 ⊕ s3)
-    ∷ (s0 ⊕ 2 • s1 ⊕ 3 • s2 ⊕ s3)
-    ∷ (s0 ⊕ s1 ⊕ 2 • s2 ⊕ 3 • s3)
-    ∷ (3 • s0 ⊕ s1 ⊕ s2 ⊕ 2 • s3)
-    ∷ []
 
 -- 5.1.3: each column mixed
 abbrev pub mixColumns : State → State

@@ -2,13 +2,12 @@
 ghost use mathlib.Core.Path.{_≡_};
 ghost use Prim.Native.Nat.{ℕ};
 ghost use lib.ListN.{getD};
-ghost use Rattle.octets.specs.Bytes.{_⊕_};
-ghost use Rattle.sbox.specs.Field.{_•_};
 ghost use Rattle.sbox.specs.SBox.{IsTable};
 ghost use Rattle.state.specs.State.{at, word, state, stateOf, bytesOf, addWord};
-ghost use Rattle.state.specs.Transformations.{shiftRows, mixColumn, mixColumns, addRoundKey};
-ghost use Rattle.state.specs.InvTransformations.{invShiftRows, invMixColumn, invMixColumns};
+ghost use Rattle.state.specs.Transformations.{shiftRows, mixColumns, addRoundKey};
+ghost use Rattle.state.specs.InvTransformations.{invShiftRows, invMixColumns};
 
+// FIPS 197, 3.4: the State of 16 bytes, column by column.
 pub fn state_of(input: [u8; 16]) -> [[u8; 4]; 4]
     ensures { λ s. ⌜ s ≡ stateOf input ⌝ }
 {
@@ -20,39 +19,44 @@ pub fn state_of(input: [u8; 16]) -> [[u8; 4]; 4]
     ]
 }
 
+// FIPS 197, 3.4: the 16 bytes of a State.
 pub fn bytes_of(s: [[u8; 4]; 4]) -> [u8; 16]
     ensures { λ output. ⌜ output ≡ bytesOf s ⌝ }
 {
+    let a = s[0];
+    let b = s[1];
+    let c = s[2];
+    let d = s[3];
     [
-        s[0][0],
-        s[0][1],
-        s[0][2],
-        s[0][3],
-        s[1][0],
-        s[1][1],
-        s[1][2],
-        s[1][3],
-        s[2][0],
-        s[2][1],
-        s[2][2],
-        s[2][3],
-        s[3][0],
-        s[3][1],
-        s[3][2],
-        s[3][3],
+        a[0],
+        a[1],
+        a[2],
+        a[3],
+        b[0],
+        b[1],
+        b[2],
+        b[3],
+        c[0],
+        c[1],
+        c[2],
+        c[3],
+        d[0],
+        d[1],
+        d[2],
+        d[3],
     ]
 }
 
 // The byte's entry: f b for each rule f that the table follows.
 fn look_up(table: &[u8; 256], b: u8) -> u8
-    ensures { λ r. ⌜ ((f : ℕ → ℕ) → IsTable f (now (table .entry)) → r ≡ f b) ⌝ }
+    ensures { λ result. ⌜ ((f : ℕ → ℕ) → IsTable f (now (table .entry)) → result ≡ f b) ⌝ }
 {
     table[b as usize]
 }
 
-// SubWord, with the S-box's table.
+// FIPS 197, 5.2: SubWord, with the S-box's table.
 pub fn sub_word(table: &[u8; 256], a: [u8; 4]) -> [u8; 4]
-    ensures { λ r. ⌜ ((f : ℕ → ℕ) → IsTable f (now (table .entry)) → r ≡ word (λ i. f (getD a i 0))) ⌝ }
+    ensures { λ result. ⌜ ((f : ℕ → ℕ) → IsTable f (now (table .entry)) → result ≡ word (λ i. f (getD a i 0))) ⌝ }
 {
     [
         look_up(table, a[0]),
@@ -62,9 +66,9 @@ pub fn sub_word(table: &[u8; 256], a: [u8; 4]) -> [u8; 4]
     ]
 }
 
-// SubBytes with the S-box's table, InvSubBytes with the inverse S-box's.
+// FIPS 197, 5.1.1 and 5.3.2: SubBytes with the S-box's table, InvSubBytes with the inverse S-box's.
 pub fn sub_bytes(table: &[u8; 256], s: [[u8; 4]; 4]) -> [[u8; 4]; 4]
-    ensures { λ r. ⌜ ((f : ℕ → ℕ) → IsTable f (now (table .entry)) → r ≡ state (λ r c. f (at s r c))) ⌝ }
+    ensures { λ result. ⌜ ((f : ℕ → ℕ) → IsTable f (now (table .entry)) → result ≡ state (λ r c. f (at s r c))) ⌝ }
 {
     [
         sub_word(table, s[0]),
@@ -74,59 +78,44 @@ pub fn sub_bytes(table: &[u8; 256], s: [[u8; 4]; 4]) -> [[u8; 4]; 4]
     ]
 }
 
+// FIPS 197, 5.1.2: ShiftRows.
 pub fn shift_rows(s: [[u8; 4]; 4]) -> [[u8; 4]; 4]
-    ensures { λ r. ⌜ r ≡ shiftRows s ⌝ }
+    ensures { λ result. ⌜ result ≡ shiftRows s ⌝ }
 {
+    let a = s[0];
+    let b = s[1];
+    let c = s[2];
+    let d = s[3];
     [
-        [s[0][0], s[1][1], s[2][2], s[3][3]],
-        [s[1][0], s[2][1], s[3][2], s[0][3]],
-        [s[2][0], s[3][1], s[0][2], s[1][3]],
-        [s[3][0], s[0][1], s[1][2], s[2][3]],
+        [a[0], b[1], c[2], d[3]],
+        [b[0], c[1], d[2], a[3]],
+        [c[0], d[1], a[2], b[3]],
+        [d[0], a[1], b[2], c[3]],
     ]
 }
 
-fn times_02(a: u8) -> u8
-    ensures { λ r. ⌜ r ≡ 2 • a ⌝ }
-{
-    sbox::x_times(a)
-}
-
-fn times_03(a: u8) -> u8
-    ensures { λ r. ⌜ r ≡ 3 • a ⌝ }
-{
-    sbox::x_times(a) ^ a
-}
-
-fn mix_column(s: [u8; 4]) -> [u8; 4]
-    ensures { λ r. ⌜ r ≡ mixColumn s ⌝ }
-{
-    [
-        times_02(s[0]) ^ times_03(s[1]) ^ s[2] ^ s[3],
-        s[0] ^ times_02(s[1]) ^ times_03(s[2]) ^ s[3],
-        s[0] ^ s[1] ^ times_02(s[2]) ^ times_03(s[3]),
-        times_03(s[0]) ^ s[1] ^ s[2] ^ times_02(s[3]),
-    ]
-}
-
+// FIPS 197, 5.1.3: MixColumns.
 pub fn mix_columns(s: [[u8; 4]; 4]) -> [[u8; 4]; 4]
-    ensures { λ r. ⌜ r ≡ mixColumns s ⌝ }
+    ensures { λ result. ⌜ result ≡ mixColumns s ⌝ }
 {
     [
-        mix_column(s[0]),
-        mix_column(s[1]),
-        mix_column(s[2]),
-        mix_column(s[3]),
+        columns::mix_column(s[0]),
+        columns::mix_column(s[1]),
+        columns::mix_column(s[2]),
+        columns::mix_column(s[3]),
     ]
 }
 
+// The sum of two words.
 pub fn add_word(a: [u8; 4], b: [u8; 4]) -> [u8; 4]
-    ensures { λ r. ⌜ r ≡ addWord a b ⌝ }
+    ensures { λ result. ⌜ result ≡ addWord a b ⌝ }
 {
     [a[0] ^ b[0], a[1] ^ b[1], a[2] ^ b[2], a[3] ^ b[3]]
 }
 
+// FIPS 197, 5.1.4: AddRoundKey.
 pub fn add_round_key(s: [[u8; 4]; 4], k: [[u8; 4]; 4]) -> [[u8; 4]; 4]
-    ensures { λ r. ⌜ r ≡ addRoundKey s k ⌝ }
+    ensures { λ result. ⌜ result ≡ addRoundKey s k ⌝ }
 {
     [
         add_word(s[0], k[0]),
@@ -136,71 +125,30 @@ pub fn add_round_key(s: [[u8; 4]; 4], k: [[u8; 4]; 4]) -> [[u8; 4]; 4]
     ]
 }
 
+// FIPS 197, 5.3.1: InvShiftRows.
 pub fn inv_shift_rows(s: [[u8; 4]; 4]) -> [[u8; 4]; 4]
-    ensures { λ r. ⌜ r ≡ invShiftRows s ⌝ }
+    ensures { λ result. ⌜ result ≡ invShiftRows s ⌝ }
 {
+    let a = s[0];
+    let b = s[1];
+    let c = s[2];
+    let d = s[3];
     [
-        [s[0][0], s[3][1], s[2][2], s[1][3]],
-        [s[1][0], s[0][1], s[3][2], s[2][3]],
-        [s[2][0], s[1][1], s[0][2], s[3][3]],
-        [s[3][0], s[2][1], s[1][2], s[0][3]],
+        [a[0], d[1], c[2], b[3]],
+        [b[0], a[1], d[2], c[3]],
+        [c[0], b[1], a[2], d[3]],
+        [d[0], c[1], b[2], a[3]],
     ]
 }
 
-fn times_09(a: u8) -> u8
-    ensures { λ r. ⌜ r ≡ 0x09 • a ⌝ }
-{
-    let a2 = sbox::x_times(a);
-    let a4 = sbox::x_times(a2);
-    let a8 = sbox::x_times(a4);
-    a8 ^ a
-}
-
-fn times_0b(a: u8) -> u8
-    ensures { λ r. ⌜ r ≡ 0x0b • a ⌝ }
-{
-    let a2 = sbox::x_times(a);
-    let a4 = sbox::x_times(a2);
-    let a8 = sbox::x_times(a4);
-    a8 ^ a2 ^ a
-}
-
-fn times_0d(a: u8) -> u8
-    ensures { λ r. ⌜ r ≡ 0x0d • a ⌝ }
-{
-    let a2 = sbox::x_times(a);
-    let a4 = sbox::x_times(a2);
-    let a8 = sbox::x_times(a4);
-    a8 ^ a4 ^ a
-}
-
-fn times_0e(a: u8) -> u8
-    ensures { λ r. ⌜ r ≡ 0x0e • a ⌝ }
-{
-    let a2 = sbox::x_times(a);
-    let a4 = sbox::x_times(a2);
-    let a8 = sbox::x_times(a4);
-    a8 ^ a4 ^ a2
-}
-
-fn inv_mix_column(s: [u8; 4]) -> [u8; 4]
-    ensures { λ r. ⌜ r ≡ invMixColumn s ⌝ }
-{
-    [
-        times_0e(s[0]) ^ times_0b(s[1]) ^ times_0d(s[2]) ^ times_09(s[3]),
-        times_09(s[0]) ^ times_0e(s[1]) ^ times_0b(s[2]) ^ times_0d(s[3]),
-        times_0d(s[0]) ^ times_09(s[1]) ^ times_0e(s[2]) ^ times_0b(s[3]),
-        times_0b(s[0]) ^ times_0d(s[1]) ^ times_09(s[2]) ^ times_0e(s[3]),
-    ]
-}
-
+// FIPS 197, 5.3.3: InvMixColumns.
 pub fn inv_mix_columns(s: [[u8; 4]; 4]) -> [[u8; 4]; 4]
-    ensures { λ r. ⌜ r ≡ invMixColumns s ⌝ }
+    ensures { λ result. ⌜ result ≡ invMixColumns s ⌝ }
 {
     [
-        inv_mix_column(s[0]),
-        inv_mix_column(s[1]),
-        inv_mix_column(s[2]),
-        inv_mix_column(s[3]),
+        columns::inv_mix_column(s[0]),
+        columns::inv_mix_column(s[1]),
+        columns::inv_mix_column(s[2]),
+        columns::inv_mix_column(s[3]),
     ]
 }

@@ -1,7 +1,6 @@
 -- `decrypt` meets its contract: one case for whole blocks, and one for all else.
 -- Assumes nothing.
 use borrow.Author.Needs.{needs}
-use mathlib.Core.Path.{refl}
 use borrow.Author.Tests.{eq-eqb, ne-eqb}
 use Rattle.cbc.specs.Whole.{outcome, ifWhole}
 use Rattle.cbc.proofs.decrypt.Statement.{statement}

@@ -2,10 +2,10 @@
 -- Assumes nothing.
 use borrow.Author.Needs.{needs}
 use mathlib.Core.Path.{_≡_, refl, ap₂, _∙_}
-use mathlib.Core.List.{[], _∷_, _++_}
-use Prim.Native.Nat.{ℕ, _≤_, _-_, _*_, _%_}
+use mathlib.Core.List.{_∷_, _++_}
+use Prim.Native.Nat.{_≤_, _-_, _*_, _%_}
 use native.Mathlib.Omega.{arith}
-use lib.ListN.{length, getD, take, drop, length-set, drop-of-length-le}
+use lib.ListN.{length, getD, take, length-set, drop-of-length-le}
 use lib.Seq.{set-split}
 use Rattle.octets.specs.Bytes.{Bytes, tabulate}
 use Rattle.octets.proofs.Tabulate.{tabulate-store}

@@ -12,7 +12,7 @@ use Rattle.octets.specs.Bytes.{Bytes}
 use Rattle.aes.specs.Aes.{ciph, aes}
 use Rattle.cbc.specs.Cbc.{cbcEncrypt}
 use Rattle.cbc.specs.Whole.{whole}
-use Rattle.primitives.specs.Calls.{isBlock}
+use Rattle.primitives.specs.Calls.{blockLong}
 use Rattle.cbc.proofs.Outcomes.{done-whole, done-changed, partial-not-whole, partial-kept}
 use Rattle.primitives.proofs.Results.{key-fits, bad-key, malformed, done}
 use Rattle.primitives.proofs.pivsm_cbc_encrypt.Statement.{statement}
@@ -47,7 +47,7 @@ returns-4 c =
     let xs = c .before .before .before .before .before .before .before .before .before .before .before .before .before .before .before .before .before .args .«data» .now in
     let told = sym (c .before .before .before .before .encrypt .ensures .0) ∙ c .enum-told3 .given .1 in
     let a = c .before .before .before .before .before .before .before .before .before .before .before .before .before .before .before .before .before .args in
-    let m = malformed (a .key .now) (isBlock (a .iv .now) && whole xs) (λ size k. cbcEncrypt (aes size k) (a .iv .now) xs) xs _ (sym (c .before .before .before .before .before .before .before .before .before .before .before .before .before .key-size .ensures) ∙ c .before .before .before .before .before .before .before .before .before .before .before .size .given .1)
+    let m = malformed (a .key .now) (blockLong (a .iv .now) && whole xs) (λ size k. cbcEncrypt (aes size k) (a .iv .now) xs) xs _ (sym (c .before .before .before .before .before .before .before .before .before .before .before .before .before .key-size .ensures) ∙ c .before .before .before .before .before .before .before .before .before .before .before .size .given .1)
     (simp (eq-eqb _ _ (c .before .before .before .before .before .before .before .before .before .if1 .left), partial-not-whole xs told)) in
     (m .0, c .before .before .before .before .encrypt .ensures .1 ∙ partial-kept _ xs told ∙ m .1)
 

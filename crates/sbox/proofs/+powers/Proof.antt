@@ -6,13 +6,13 @@ use native.Mathlib.Omega.{arith}
 use borrow.Author.Needs.{needs}
 use borrow.Fn.Kinds.{In}
 use borrow.Fn.PlainCycle.{Measures, is, falls, and}
-use Rattle.sbox.specs.Field.{_•_}
+use Rattle.field.specs.Field.{_•_}
 use Rattle.sbox.specs.SBox.{powers}
 use Rattle.sbox.proofs.PowerSteps.{powers-none, powers-more}
 use Rattle.sbox.proofs.powers.Reads as reads
 use Rattle.sbox.proofs.powers.Kinds as kinds
 use Rattle.sbox.proofs.+powers.Lts-powers as lts
-use Rattle.sbox.proofs.multiply.Reads as multiply-reads
+use Rattle.field.proofs.multiply.Reads as multiply-reads
 use Rattle.sbox.proofs.+powers.{statement}
 use Rattle.sbox.proofs.+powers.Tie.{close}
 

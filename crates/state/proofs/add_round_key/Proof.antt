@@ -1,7 +1,7 @@
 -- `add_round_key` meets its contract: each column is added.
 -- Assumes nothing.
 use borrow.Author.Needs.{needs}
-use Rattle.octets.proofs.Four.{four}
+use Rattle.octets.proofs.ListsOfFour.{four}
 use Rattle.state.specs.State.{addWord}
 use Rattle.state.proofs.add_round_key.Statement.{statement}
 use Rattle.state.proofs.add_round_key.Tie as tie

@@ -1,7 +1,7 @@
 -- `sub_bytes` meets its contract: each column is substituted.
 -- Assumes nothing.
 use borrow.Author.Needs.{needs}
-use Rattle.octets.proofs.Four.{four}
+use Rattle.octets.proofs.ListsOfFour.{four}
 use Rattle.state.proofs.sub_bytes.Statement.{statement}
 use Rattle.state.proofs.sub_bytes.Tie as tie
 

@@ -1,7 +1,7 @@
 -- `sub_word` meets its contract: each byte is looked up.
 -- Assumes nothing.
 use borrow.Author.Needs.{needs}
-use Rattle.octets.proofs.Four.{four}
+use Rattle.octets.proofs.ListsOfFour.{four}
 use Rattle.state.proofs.sub_word.Statement.{statement}
 use Rattle.state.proofs.sub_word.Tie as tie
 

@@ -1,0 +1,3 @@
+pub mod XTimes
+pub mod Sums
+pub mod MixColumn
