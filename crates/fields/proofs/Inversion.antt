@@ -1,9 +1,8 @@
 -- What holds of a field in which an object was read: each rule that the reading tested.
 -- Assumes nothing.
-use mathlib.Core.Path.{_≡_, refl, sym, ap, _∙_}
+use mathlib.Core.Path.{_≡_, refl}
 use mathlib.Core.Bool.{Bool, true, false, _&&_}
 use Prim.Native.Nat.{ℕ, _+_, _-_, _%_, _<_, _≤_}
-use native.Mathlib.Nat.{zero-lt-suc}
 use native.Mathlib.Omega.{arith}
 use borrow.Author.Tests.{eqb-true, leb-true, leb-false, ltb-true}
 use lib.Dec.{eqb, leb, ltb, lit≤}
@@ -14,7 +13,7 @@ use Rattle.tlv.specs.Length.{readLength, isShortest}
 use Rattle.tlv.specs.declared.LengthRead.{LengthRead}
 use Rattle.tlv.specs.declared.LengthRead.the-variants.{Length, BadForm}
 use Rattle.fields.specs.Wanted.{tagOf, sizeOf, rank, may, needOf, allowed, rightSize, rightValue}
-use Rattle.fields.specs.Object.{breach, readObject}
+use Rattle.fields.specs.Object.{readObject}
 use Rattle.fields.specs.declared.Second.{Second}
 use Rattle.fields.specs.declared.Second.the-variants.{Le, Status}
 use Rattle.fields.specs.declared.Wanted.{Wanted}

@@ -1,20 +1,17 @@
 -- The ways in which the reading of an object ends, each from its first breach.
 -- Assumes nothing.
-use mathlib.Core.Path.{_≡_, refl}
-use mathlib.Core.Bool.{Bool, true, false}
+use mathlib.Core.Path.{_≡_}
+use mathlib.Core.Bool.{true, false}
 use Prim.Native.Nat.{ℕ, _+_, _<_, _≤_}
 use borrow.Author.Tests.{le-leb, lt-leb}
 use lib.ListN.{length, getD}
 use Rattle.octets.specs.Bytes.{Bytes}
-use Rattle.octets.specs.Choice.{if_then_else_}
 use Rattle.tlv.specs.Length.{readLength, isShortest}
-use Rattle.tlv.specs.declared.LengthRead.{LengthRead}
 use Rattle.tlv.specs.declared.LengthRead.the-variants.{Length, BadForm}
 use Rattle.fields.specs.Wanted.{allowed, rightSize, rightValue}
-use Rattle.fields.specs.Object.{breach, require_else_⨾_, withLength, readObject}
+use Rattle.fields.specs.Object.{breach, withLength, readObject}
 use Rattle.fields.specs.declared.Wanted.{Wanted}
 use Rattle.fields.specs.declared.Rule.the-variants.{Tag, LengthForm, LengthSize, BytesLeft, Value}
-use Rattle.fields.specs.declared.ObjectRead.{ObjectRead}
 use Rattle.fields.specs.declared.ObjectRead.the-variants.{Object, Malformed}
 
 module _ (w : Wanted) (r : ℕ) (xs : Bytes) (at : ℕ) where

@@ -1,12 +1,11 @@
 -- The walk, object by object: the turns of `read_field`'s loop.
 -- Assumes nothing.
-use mathlib.Core.Path.{_≡_, refl, ap, _∙_}
-use Prim.Native.Nat.{ℕ, zero, suc, _+_, _-_, _<_, _≤_}
+use mathlib.Core.Path.{_≡_, refl}
+use Prim.Native.Nat.{ℕ, zero, suc, _-_, _<_, _≤_}
 use native.Mathlib.Omega.{arith}
 use borrow.Author.Tests.{lt-ltb, le-ltb}
 use lib.ListN.{length}
 use Rattle.octets.specs.Bytes.{Bytes}
-use Rattle.octets.specs.Choice.{if_then_else_}
 use Rattle.fields.specs.Wanted.{rank}
 use Rattle.fields.specs.Object.{readObject}
 use Rattle.fields.specs.Field.{noted, ended, onObject, walk}
@@ -15,7 +14,6 @@ use Rattle.fields.specs.declared.Breach.{Breach}
 use Rattle.fields.specs.declared.DataObject.{DataObject}
 use Rattle.fields.specs.declared.ObjectRead.the-variants.{Object, Malformed}
 use Rattle.fields.specs.declared.Objects.{Objects}
-use Rattle.fields.specs.declared.FieldRead.{FieldRead}
 use Rattle.fields.specs.declared.FieldRead.the-variants.{Malformed as BadField}
 
 module _ (w : Wanted) (xs : Bytes) (o : Objects) (r at : ℕ) where

@@ -13,7 +13,6 @@ use Rattle.fields.specs.declared.Wanted.{Wanted}
 use Rattle.fields.specs.declared.Rule.{Rule}
 use Rattle.fields.specs.declared.Rule.the-variants.{Tag, LengthForm, LengthSize, BytesLeft, Value}
 use Rattle.fields.specs.declared.Breach.{Breach}
-use Rattle.fields.specs.declared.DataObject.{DataObject}
 use Rattle.fields.specs.declared.ObjectRead.{ObjectRead}
 use Rattle.fields.specs.declared.ObjectRead.the-variants.{Object, Malformed}
 

@@ -1,11 +1,10 @@
 -- The lengths of padding and of padded data.
 -- Assumes nothing.
-use mathlib.Core.Path.{_≡_, refl, ap, _∙_}
-use mathlib.Core.List.{_∷_}
-use Prim.Native.Nat.{ℕ, suc, _+_, _*_, _-_, _/_, _%_}
+use mathlib.Core.Path.{_≡_, ap, _∙_}
+use Prim.Native.Nat.{ℕ, suc, _-_, _%_}
 use native.Mathlib.Omega.{arith}
 use lib.ListN.{length, length-append, length-replicate}
-use Rattle.octets.specs.Bytes.{Bytes, zeros}
+use Rattle.octets.specs.Bytes.{Bytes}
 use Rattle.padding.specs.Padding.{padding, pad, paddedLength}
 
 pub length-padding : (p : ℕ) → length (padding p) ≡ 16 - p % 16

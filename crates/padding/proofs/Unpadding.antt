@@ -1,8 +1,8 @@
 -- The walk back over zeros, step by step; and what was padded is found again.
 -- Assumes nothing.
-use mathlib.Core.Path.{_≡_, refl, sym, ap, ap₂, _∙_}
-use mathlib.Core.List.{[], _∷_, _++_}
-use Prim.Native.Nat.{ℕ, zero, suc, _+_, _*_, _-_, _/_, _%_, _<_, _≤_, min}
+use mathlib.Core.Path.{_≡_, refl, ap, ap₂, _∙_}
+use mathlib.Core.List.{_∷_, _++_}
+use Prim.Native.Nat.{ℕ, zero, suc, _+_, _-_, _%_, _<_, _≤_, min}
 use native.Mathlib.Nat.{zero-add}
 use native.Mathlib.Omega.{arith}
 use borrow.Author.Tests.{eq-eqb, ne-eqb}
@@ -10,7 +10,6 @@ use lib.ListN.{length, getD, length-append, getD-replicate, length-replicate}
 use lib.Seq.{getD-append-add, getD-append-seam}
 use Rattle.octets.specs.Bytes.{Bytes, zeros}
 use Rattle.padding.specs.Padding.{padding, pad, marked, markBefore, unpad}
-use Rattle.padding.specs.declared.Unpadded.{Unpadded}
 use Rattle.padding.specs.declared.Unpadded.the-variants.{Data, BadPadding}
 use Rattle.padding.proofs.Lengths.{length-pad}
 

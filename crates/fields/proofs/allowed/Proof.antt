@@ -1,10 +1,10 @@
 -- `allowed` meets its contract: the place in the list first, then what is wanted.
 -- Assumes nothing.
 use borrow.Author.Needs.{needs}
-use mathlib.Core.Path.{_≡_, ap, _∙_}
+use mathlib.Core.Path.{ap, _∙_}
 use Prim.Native.Nat.{_≤_, _<_}
 use native.Mathlib.Omega.{arith}
-use borrow.Author.Tests.{eq-eqb, ne-eqb, lt-ltb, le-ltb, le-leb, lt-leb}
+use borrow.Author.Tests.{eq-eqb, ne-eqb, lt-ltb, le-ltb}
 use Rattle.fields.specs.Wanted.{may, rank, allowed}
 use Rattle.fields.proofs.allowed.Statement.{statement}
 use Rattle.fields.proofs.allowed.Tie as tie

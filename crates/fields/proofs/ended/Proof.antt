@@ -1,7 +1,7 @@
 -- `ended` meets its contract: the objects of the list, one after the other.
 -- Assumes nothing.
 use borrow.Author.Needs.{needs}
-use mathlib.Core.Path.{_≡_, sym, ap, _∙_}
+use mathlib.Core.Path.{sym, ap, _∙_}
 use borrow.Author.Tests.{lt-ltb, le-ltb}
 use Rattle.fields.specs.Wanted.{lacks}
 use Rattle.fields.specs.Field.{ended}

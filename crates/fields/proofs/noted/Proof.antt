@@ -1,7 +1,7 @@
 -- `noted` meets its contract: one case for each tag.
 -- Assumes nothing.
 use borrow.Author.Needs.{needs}
-use borrow.Author.Tests.{eq-eqb, ne-eqb, lt-ltb, le-ltb}
+use borrow.Author.Tests.{eq-eqb, ne-eqb}
 use Rattle.fields.specs.Field.{noted}
 use Rattle.fields.proofs.noted.Statement.{statement}
 use Rattle.fields.proofs.noted.Tie as tie

@@ -1,11 +1,10 @@
 -- `read_object` meets its contract: one case for each first breach.
 -- Assumes nothing.
 use borrow.Author.Needs.{needs}
-use mathlib.Core.Path.{_≡_, sym, _∙_}
-use Prim.Native.Nat.{_+_, _<_, _≤_}
+use mathlib.Core.Path.{sym, _∙_}
+use Prim.Native.Nat.{_+_}
 use native.Mathlib.Omega.{arith}
 use borrow.Author.Tests.{not-true, not-false}
-use lib.ListN.{length}
 use Rattle.tlv.proofs.LengthForms.{read-within}
 use Rattle.fields.proofs.ObjectCases.{bad-tag, bad-form, long-form, bad-size, past-end, bad-value, whole-object}
 use Rattle.fields.proofs.read_object.Statement.{statement}

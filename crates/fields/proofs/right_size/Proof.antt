@@ -1,10 +1,7 @@
 -- `right_size` meets its contract: one case for each tag.
 -- Assumes nothing.
 use borrow.Author.Needs.{needs}
-use mathlib.Core.Path.{_≡_}
-use Prim.Native.Nat.{_≤_}
-use native.Mathlib.Omega.{arith}
-use borrow.Author.Tests.{eq-eqb, ne-eqb, lt-ltb, le-ltb, le-leb, lt-leb}
+use borrow.Author.Tests.{eq-eqb, ne-eqb, le-leb, lt-leb}
 use Rattle.fields.specs.Wanted.{rightSize}
 use Rattle.fields.proofs.right_size.Statement.{statement}
 use Rattle.fields.proofs.right_size.Tie as tie

@@ -1,7 +1,7 @@
 -- `right_value` meets its contract: one case for each tag.
 -- Assumes nothing.
 use borrow.Author.Needs.{needs}
-use borrow.Author.Tests.{eq-eqb, ne-eqb, lt-ltb, le-ltb, le-leb, lt-leb}
+use borrow.Author.Tests.{eq-eqb, ne-eqb}
 use Rattle.fields.specs.Wanted.{rightValue}
 use Rattle.fields.proofs.right_value.Statement.{statement}
 use Rattle.fields.proofs.right_value.Tie as tie

@@ -1,8 +1,8 @@
 -- `unpad` meets its contract: the walk back from index n, with `left` bytes to look at, ends as the whole walk.
 -- Assumes nothing.
 use borrow.Author.Needs.{needs}
-use mathlib.Core.Path.{_≡_, refl, sym, _∙_}
-use Prim.Native.Nat.{_≤_, _-_}
+use mathlib.Core.Path.{_≡_, sym, _∙_}
+use Prim.Native.Nat.{_≤_}
 use native.Mathlib.Omega.{arith}
 use lib.ListN.{length}
 use Rattle.padding.specs.Padding.{marked, markBefore, unpad}

@@ -1,11 +1,11 @@
 -- `read_length` meets its contract: one case for each form, and for each way to be cut off.
 -- Assumes nothing.
 use borrow.Author.Needs.{needs}
-use mathlib.Core.Path.{_≡_, sym, ap, ap₂, _∙_}
-use Prim.Native.Nat.{ℕ, _+_, _*_, _<_, _≤_}
+use mathlib.Core.Path.{sym, ap, ap₂, _∙_}
+use Prim.Native.Nat.{ℕ, _+_, _*_, _≤_}
 use native.Mathlib.Omega.{arith}
 use borrow.Author.Tests.{eq-eqb, ne-eqb, lt-ltb, le-ltb}
-use lib.ListN.{length, getD}
+use lib.ListN.{length}
 use Rattle.tlv.specs.Length.{readLength}
 use Rattle.tlv.specs.declared.LengthRead.the-variants.{Length}
 use Rattle.tlv.proofs.LengthForms.{read-one, read-two, read-three}
