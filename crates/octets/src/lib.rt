@@ -3,7 +3,7 @@ ghost use mathlib.Core.Path.{_≡_};
 ghost use mathlib.Core.List.{[], _∷_};
 ghost use Prim.Native.Nat.{_+_, _<_, _≤_};
 ghost use lib.ListN.{length, take, drop};
-ghost use Rattle.octets.specs.Bytes.{_xor_};
+ghost use Rattle.octets.specs.Bytes.{_xor_, zeros};
 ghost use Rattle.octets.specs.Write.{Wrote};
 
 // The exclusive or of two blocks.
@@ -75,4 +75,17 @@ pub fn put_byte(out: &mut [u8], at: usize, b: u8) -> usize
 {
     out[at] = b;
     at + 1
+}
+
+// n bytes of zero from index `at` on; the index behind them.
+pub fn put_zeros(out: &mut [u8], at: usize, n: usize) -> usize
+    requires { ⌜ at + n ≤ length (now out) ⌝ }
+    ensures { λ next. ⌜ Wrote (now (out .entry)) at (zeros n) next (now (out .exit)) ⌝ }
+{
+    let mut i: usize = 0;
+    while i < n {
+        out[at + i] = 0;
+        i += 1;
+    }
+    at + i
 }

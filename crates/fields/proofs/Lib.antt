@@ -1,0 +1,3 @@
+pub mod ObjectCases
+pub mod Inversion
+pub mod Walk

@@ -1,0 +1,59 @@
+-- Document 01, "Objects, encryption and MAC": a whole field, read from left to right. Assumes nothing.
+use mathlib.Core.Bool.{true, false}
+use Prim.Native.Nat.{ℕ, zero, suc, _+_, _-_}
+use lib.Dec.{eqb, ltb}
+use lib.ListN.{length}
+use Rattle.octets.specs.Bytes.{Bytes}
+use Rattle.octets.specs.Choice.{if_then_else_}
+use Rattle.fields.specs.Wanted.{lacks, tagOf, needOf, rank}
+use Rattle.fields.specs.Object.{breach, readObject}
+use Rattle.fields.specs.declared.Wanted.{Wanted}
+use Rattle.fields.specs.declared.Rule.the-variants.{Tag}
+use Rattle.fields.specs.declared.DataObject.{DataObject}
+use Rattle.fields.specs.declared.ObjectRead.{ObjectRead}
+use Rattle.fields.specs.declared.ObjectRead.the-variants.{Object, Malformed}
+use Rattle.fields.specs.declared.Objects.{Objects}
+use Rattle.fields.specs.declared.FieldRead.{FieldRead}
+use Rattle.fields.specs.declared.FieldRead.the-variants.{Read, Malformed as BadField, Missing}
+
+-- no object yet
+abbrev pub none : Objects
+none = record { ciphertext = 0; «ciphertext_len» = 0; second = false; «mac_start» = 0; mac = 0 }
+
+-- one object more
+unfoldable pub noted : Objects → DataObject → Objects
+noted o d =
+    if eqb (d .tag) 0x87 then
+    record { ciphertext = d .value + 1; «ciphertext_len» = d .len - 1; second = o .second; «mac_start» = o .«mac_start»; mac = o .mac } else
+    if eqb (d .tag) 0x8E then
+    record { ciphertext = o .ciphertext; «ciphertext_len» = o .«ciphertext_len»; second = o .second; «mac_start» = d .start; mac = d .value } else
+    record { ciphertext = o .ciphertext; «ciphertext_len» = o .«ciphertext_len»; second = true; «mac_start» = o .«mac_start»; mac = o .mac }
+
+-- anything but an object that is wanted ends the walk
+unfoldable pub refused : ObjectRead → FieldRead
+refused (Malformed b) = BadField b
+refused (Object d) = BadField (breach Tag (d .tag) (d .start))
+
+-- at the end, after an object at place r: the first object that must be there and isn't, in the list's order, or the objects
+unfoldable pub ended : Wanted → Objects → ℕ → ℕ → FieldRead
+ended w o r end =
+    if lacks (w .«data») (ltb 0 (o .«ciphertext_len»)) then Missing 0x87 end else
+    if lacks (needOf (w .second)) (o .second) then Missing (tagOf (w .second)) end else
+    if ltb r 3 then Missing 0x8E end else Read o
+
+-- what an object leads to, by the walk from it on
+unfoldable pub onObject : ObjectRead → (DataObject → FieldRead) → FieldRead
+onObject (Object d) walk = walk d
+onObject (Malformed b) walk = BadField b
+
+-- the walk from index at on, after an object at place r, with at most k objects to read
+unfoldable pub walk : ℕ → Wanted → Bytes → Objects → ℕ → ℕ → FieldRead
+walk zero w xs o r at = ended w o r (length xs)
+walk (suc k) w xs o r at =
+    if ltb at (length xs) then
+    onObject (readObject w r xs at) (λ d. walk k w xs (noted o d) (rank (w .second) (d .tag)) (d .next))
+    else ended w o r (length xs)
+
+-- a list has three tags, so the fourth object is a breach at the latest
+unfoldable pub readField : Wanted → Bytes → FieldRead
+readField w xs = walk 4 w xs none 0 0
