@@ -9,7 +9,7 @@ use Rattle.octets.specs.Bytes.{Bytes}
 use Rattle.tlv.specs.Length.{readLength, isShortest}
 use Rattle.tlv.specs.declared.LengthRead.the-variants.{Length, BadForm}
 use Rattle.fields.specs.Wanted.{allowed, rightSize, rightValue}
-use Rattle.fields.specs.Object.{breach, withLength, readObject}
+use Rattle.fields.specs.Object.{breach, require_else_⨾_, withLength, readObject}
 use Rattle.fields.specs.declared.Wanted.{Wanted}
 use Rattle.fields.specs.declared.Rule.the-variants.{Tag, LengthForm, LengthSize, BytesLeft, Value}
 use Rattle.fields.specs.declared.ObjectRead.the-variants.{Object, Malformed}
