@@ -87,5 +87,5 @@ pub fn put_zeros(out: &mut [u8], at: usize, n: usize) -> usize
         out[at + i] = 0;
         i += 1;
     }
-    at + i
+    at + n
 }
