@@ -2,7 +2,7 @@
 use mathlib.Core.Bool.{true, false}
 use Prim.Native.Nat.{ℕ, zero, suc, _+_, _-_}
 use lib.Dec.{eqb, ltb}
-use lib.ListN.{length}
+use lib.ListN.{length, take, drop}
 use Rattle.octets.specs.Bytes.{Bytes}
 use Rattle.octets.specs.Choice.{if_then_else_}
 use Rattle.fields.specs.Wanted.{lacks, tagOf, needOf, rank}
@@ -57,3 +57,15 @@ walk (suc k) w xs o r at =
 -- a list has three tags, so the fourth object is a breach at the latest
 unfoldable pub readField : Wanted → Bytes → FieldRead
 readField w xs = walk 4 w xs none 0 0
+
+-- ---- what an accepted field held
+
+abbrev pub ciphertextOf : Bytes → Objects → Bytes
+ciphertextOf xs o = take (o .«ciphertext_len») (drop (o .ciphertext) xs)
+
+-- the bytes before '8E', as received: those that the MAC covers
+abbrev pub coveredOf : Bytes → Objects → Bytes
+coveredOf xs o = take (o .«mac_start») xs
+
+abbrev pub macOf : Bytes → Objects → Bytes
+macOf xs o = take 8 (drop (o .mac) xs)

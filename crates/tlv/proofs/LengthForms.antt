@@ -1,17 +1,19 @@
 -- The three forms of a length field; and a length that was written is read again, in its shortest form.
 -- Assumes nothing.
-use mathlib.Core.Path.{_≡_, refl, ap, ap₂, _∙_}
+use mathlib.Core.Path.{_≡_, refl, sym, ap, ap₂, _∙_}
+use mathlib.Core.Logic.{_⊎_, inl, inr}
 use mathlib.Core.Bool.{Bool, true, false}
 use mathlib.Core.List.{[], _∷_, _++_}
-use Prim.Native.Nat.{ℕ, _+_, _*_, _/_, _%_, _<_, _≤_}
+use Prim.Native.Nat.{ℕ, suc, _+_, _*_, _/_, _%_, _<_, _≤_}
+use native.Mathlib.Numerals.{add-one}
 use native.Mathlib.Omega.{arith}
-use borrow.Author.Tests.{eq-eqb, ne-eqb, lt-ltb, le-ltb, ltb-true}
+use borrow.Author.Tests.{eq-eqb, ne-eqb, lt-ltb, le-ltb, ltb-true, eqb-true}
 use lib.Dec.{eqb, ltb, lit≤}
-use lib.ListN.{length, getD, length-append}
-use lib.Seq.{getD-append-add}
-use Rattle.octets.specs.Bytes.{Bytes}
+use lib.ListN.{length, getD, take, drop, length-append}
+use lib.Seq.{getD-append-add, getD-take, length-take-le, drop-cons}
+use Rattle.octets.specs.Bytes.{Bytes, IsBytes}
 use Rattle.octets.specs.Choice.{if_then_else_}
-use Rattle.octets.proofs.ByteStrings.{by-test}
+use Rattle.octets.proofs.ByteStrings.{by-test, byte-at}
 use Rattle.tlv.specs.Length.{lengthField, readLength, isShortest}
 use Rattle.tlv.specs.declared.LengthRead.the-variants.{Length, BadForm}
 
@@ -95,28 +97,105 @@ module _ (front back : Bytes) (n : ℕ) where
           ∙ ap₂ (λ (a b : ℕ). Length (a * 256 + b) 3) (at-front f 1) (at-front f 2)
           ∙ ap (λ (m : ℕ). Length m 3) e)
 
--- ---- a length field that is read stands within the string
+-- ---- the form that was read
 
 no-form : {n size : ℕ} {P : Type 0} → BadForm ≡ Length n size → P
 no-form e = let z : _≡_ {A = ℕ} 0 1 = cc in let o : ⊥ = omega arith in absurd o
 
-pub read-within : (xs : Bytes) (at n size : ℕ) → readLength xs at ≡ Length n size → at + size ≤ length xs
+abbrev OneByte : Bytes → ℕ → ℕ → ℕ → Type 0
+OneByte xs at n size = (at < length xs) × ((getD xs at 0 < 128) × ((getD xs at 0 ≡ n) × (1 ≡ size)))
+
+abbrev TwoBytes : Bytes → ℕ → ℕ → ℕ → Type 0
+TwoBytes xs at n size = (at + 1 < length xs) × ((getD xs at 0 ≡ 0x81) × ((getD xs (at + 1) 0 ≡ n) × (2 ≡ size)))
+
+abbrev ThreeBytes : Bytes → ℕ → ℕ → ℕ → Type 0
+ThreeBytes xs at n size = (at + 2 < length xs) × ((getD xs at 0 ≡ 0x82) × ((getD xs (at + 1) 0 * 256 + getD xs (at + 2) 0 ≡ n) × (3 ≡ size)))
+
+forms : (xs : Bytes) (at n size : ℕ) → readLength xs at ≡ Length n size
+    → OneByte xs at n size ⊎ (TwoBytes xs at n size ⊎ ThreeBytes xs at n size)
 unfolding readLength
-read-within xs at n size e =
-    by (ltb at (length xs)) refl (ltb (getD xs at 0) 128) (eqb (getD xs at 0) 0x81) (ltb (at + 1) (length xs)) refl
-    (eqb (getD xs at 0) 0x82) (ltb (at + 2) (length xs)) refl e
+forms xs at n size e =
+    by (ltb at (length xs)) refl (ltb (getD xs at 0) 128) refl (eqb (getD xs at 0) 0x81) refl (ltb (at + 1) (length xs)) refl
+    (eqb (getD xs at 0) 0x82) refl (ltb (at + 2) (length xs)) refl e
   where
-    by : (s : Bool) → ltb at (length xs) ≡ s → (t u v : Bool) → ltb (at + 1) (length xs) ≡ v → (x y : Bool) → ltb (at + 2) (length xs) ≡ y
+    by : (s : Bool) → ltb at (length xs) ≡ s → (t : Bool) → ltb (getD xs at 0) 128 ≡ t → (u : Bool) → eqb (getD xs at 0) 0x81 ≡ u
+        → (v : Bool) → ltb (at + 1) (length xs) ≡ v → (x : Bool) → eqb (getD xs at 0) 0x82 ≡ x → (y : Bool) → ltb (at + 2) (length xs) ≡ y
         → (if s then (if t then Length (getD xs at 0) 1 else if u then (if v then Length (getD xs (at + 1) 0) 2 else BadForm) else
         if x then (if y then Length (getD xs (at + 1) 0 * 256 + getD xs (at + 2) 0) 3 else BadForm) else BadForm) else BadForm)
-        ≡ Length n size → at + size ≤ length xs
-    by false p t u v q x y r f = no-form f
-    by true p true u v q x y r f = let z : 1 ≡ size = cc in omega (arith, ltb-true at (length xs) p)
-    by true p false true true q x y r f = let z : 2 ≡ size = cc in omega (arith, ltb-true (at + 1) (length xs) q)
-    by true p false true false q x y r f = no-form f
-    by true p false false v q true true r f = let z : 3 ≡ size = cc in omega (arith, ltb-true (at + 2) (length xs) r)
-    by true p false false v q true false r f = no-form f
-    by true p false false v q false y r f = no-form f
+        ≡ Length n size → OneByte xs at n size ⊎ (TwoBytes xs at n size ⊎ ThreeBytes xs at n size)
+    by false p t o u a v q x b y r f = no-form f
+    by true p true o u a v q x b y r f = inl (ltb-true at (length xs) p, (ltb-true (getD xs at 0) 128 o, (cc, cc)))
+    by true p false o true a true q x b y r f = inr (inl (ltb-true (at + 1) (length xs) q, (eqb-true (getD xs at 0) 0x81 a, (cc, cc))))
+    by true p false o true a false q x b y r f = no-form f
+    by true p false o false a v q true b true r f = inr (inr (ltb-true (at + 2) (length xs) r, (eqb-true (getD xs at 0) 0x82 b, (cc, cc))))
+    by true p false o false a v q true b false r f = no-form f
+    by true p false o false a v q false b y r f = no-form f
+
+module _ (xs : Bytes) (at n size : ℕ) (e : readLength xs at ≡ Length n size) where
+  -- it stands within the string
+  pub read-within : at + size ≤ length xs
+  read-within = go (forms xs at n size e)
+    where
+      go : OneByte xs at n size ⊎ (TwoBytes xs at n size ⊎ ThreeBytes xs at n size) → at + size ≤ length xs
+      go (inl (h, (b, (v, z)))) = omega arith
+      go (inr (inl (h, (b, (v, z))))) = omega arith
+      go (inr (inr (h, (b, (v, z))))) = omega arith
+
+  -- and is read again wherever the string is cut behind it
+  pub read-prefix : (m : ℕ) → at + size ≤ m → m ≤ length xs → readLength (take m xs) at ≡ Length n size
+  read-prefix m h l = go (forms xs at n size e)
+    where
+      same : (i : ℕ) → i < m → getD (take m xs) i 0 ≡ getD xs i 0
+      same i k = getD-take m xs i 0 k
+
+      go : OneByte xs at n size ⊎ (TwoBytes xs at n size ⊎ ThreeBytes xs at n size) → readLength (take m xs) at ≡ Length n size
+      go (inl (g, (b, (v, z)))) =
+          let q : getD (take m xs) at 0 ≡ getD xs at 0 = same at (omega arith) in
+          read-one (take m xs) at (omega (arith, length-take-le m xs l)) (omega (arith, q)) ∙ ap₂ Length (q ∙ v) z
+      go (inr (inl (g, (b, (v, z))))) =
+          read-two (take m xs) at (omega (arith, length-take-le m xs l)) (same at (omega arith) ∙ b)
+          ∙ ap₂ Length (same (at + 1) (omega arith) ∙ v) z
+      go (inr (inr (g, (b, (v, z))))) =
+          read-three (take m xs) at (omega (arith, length-take-le m xs l)) (same at (omega arith) ∙ b)
+          ∙ ap₂ Length (ap₂ (λ (x y : ℕ). x * 256 + y) (same (at + 1) (omega arith)) (same (at + 2) (omega arith)) ∙ v) z
+
+  -- one in the shortest form is the field that is written
+  pub read-shortest : IsBytes xs → isShortest n size ≡ true → take size (drop at xs) ≡ lengthField n
+  unfolding isShortest
+  read-shortest bytes s = go (forms xs at n size e)
+    where
+      long : size ≡ length (lengthField n)
+      long = eqb-true size (length (lengthField n)) s
+
+      too-short : {P : Type 0} (k : ℕ) → length (lengthField n) ≡ k → k < size → P
+      too-short k a h = let z : ⊥ = omega (arith, long, a) in absurd z
+
+      one-more : (k i : ℕ) → i < length xs → take (suc k) (drop i xs) ≡ getD xs i 0 ∷ take k (drop (suc i) xs)
+      one-more k i h = ap (take (suc k)) (drop-cons xs i 0 h)
+
+      go : OneByte xs at n size ⊎ (TwoBytes xs at n size ⊎ ThreeBytes xs at n size) → take size (drop at xs) ≡ lengthField n
+      go (inl (h, (b, (v, z)))) =
+          let q : n < 128 = omega (arith, v) in
+          rw (← z, one-byte n q, one-more 0 at h, v)
+      go (inr (inl (h, (b, (v, z))))) =
+          let l : 128 ≤ n = by-test n 128 (λ q. too-short 1 (ap length (one-byte n q)) (omega (arith, z))) (λ q. q) in
+          let m : n < 256 = omega (arith, v, byte-at xs bytes (at + 1)) in
+          ap (λ (k : ℕ). take k (drop at xs)) (sym z)
+          ∙ one-more 1 at (omega arith)
+          ∙ ap₂ (λ (x : ℕ) (l : Bytes). x ∷ l) b (one-more 0 (suc at) (omega arith) ∙ ap (λ (x : ℕ). x ∷ []) (ap (λ (i : ℕ). getD xs i 0) (sym (add-one at)) ∙ v))
+          ∙ sym (two-bytes n l m)
+      go (inr (inr (h, (b, (v, z))))) =
+          let l : 256 ≤ n = by-test n 256 (λ q. by-test n 128 (λ r. too-short 1 (ap length (one-byte n r)) (omega (arith, z))) (λ r. too-short 2 (ap length (two-bytes n r q)) (omega (arith, z)))) (λ q. q) in
+          let y : getD xs (suc (suc at)) 0 < 256 = byte-at xs bytes (suc (suc at)) in
+          let v' : getD xs (suc at) 0 * 256 + getD xs (suc (suc at)) 0 ≡ n = ap₂ (λ (i j : ℕ). getD xs i 0 * 256 + getD xs j 0) (sym (add-one at)) (let a : suc (suc at) ≡ at + 2 = omega arith in a) ∙ v in
+          let hi : getD xs (suc at) 0 ≡ n / 256 = omega (arith, v', y) in
+          let lo : getD xs (suc (suc at)) 0 ≡ n % 256 = omega (arith, v', y) in
+          ap (λ (k : ℕ). take k (drop at xs)) (sym z)
+          ∙ one-more 2 at (omega arith)
+          ∙ ap₂ (λ (x : ℕ) (l : Bytes). x ∷ l) b
+          (one-more 1 (suc at) (omega arith)
+          ∙ ap₂ (λ (x : ℕ) (l : Bytes). x ∷ l) hi (one-more 0 (suc (suc at)) (omega arith) ∙ ap (λ (x : ℕ). x ∷ []) lo))
+          ∙ sym (three-bytes n l)
 
 pub length-field-most : (n : ℕ) → length (lengthField n) ≤ 3
 unfolding lengthField
