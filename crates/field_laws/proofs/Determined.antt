@@ -25,6 +25,7 @@ use Rattle.fields.specs.declared.Objects.{Objects}
 use Rattle.fields.specs.declared.FieldRead.the-variants.{Read}
 use Rattle.fields.proofs.Inversion.{Stands, some-byte}
 use Rattle.field_laws.specs.Covered.{dataBehind, endBehind, dataIn, dataEnd, secondIn, sw1In, sw2In}
+use Rattle.field_laws.proofs.Noted.{not-data, not-mac, noted-data, noted-mac, noted-second}
 use Rattle.field_laws.proofs.Acceptance.{Part, Optional, Tail, Accepted, accepted, all-there}
 
 -- a part of a string, from a start of it that holds the part
@@ -35,34 +36,6 @@ part-of-start j k m l h g =
     ∙ ap (λ (x : Bytes). take k (drop j x)) (take-add j (m - j) l)
     ∙ ap (take k) (drop-at (take j l) (take (m - j) (drop j l)) j (length-take-le j l g))
     ∙ take-take k (m - j) (drop j l) (omega arith)
-
-not-data : (second : Second) → tagOf second ≡ 0x87 → ⊥
-not-data (Le need) q = omega arith
-not-data (Status sw1 sw2) q = omega arith
-
-not-mac : (second : Second) → tagOf second ≡ 0x8E → ⊥
-not-mac (Le need) q = omega arith
-not-mac (Status sw1 sw2) q = omega arith
-
--- ---- what each object notes
-
-module _ (o : Objects) (d : DataObject) where
-  noted-data : d .tag ≡ 0x87
-      → noted o d ≡ record { ciphertext = d .value + 1; «ciphertext_len» = d .len - 1; second = o .second; «mac_start» = o .«mac_start»; mac = o .mac }
-  unfolding noted
-  noted-data e = rw (eq-eqb (d .tag) 0x87 e)
-
-  noted-mac : d .tag ≡ 0x8E
-      → noted o d ≡ record { ciphertext = o .ciphertext; «ciphertext_len» = o .«ciphertext_len»; second = o .second; «mac_start» = d .start; mac = d .value }
-  unfolding noted
-  noted-mac e =
-      let f : d .tag ≡ 0x87 → ⊥ = λ q. omega (arith, e, q) in
-      rw (ne-eqb (d .tag) 0x87 f, eq-eqb (d .tag) 0x8E e)
-
-  noted-second : (second : Second) → d .tag ≡ tagOf second
-      → noted o d ≡ record { ciphertext = o .ciphertext; «ciphertext_len» = o .«ciphertext_len»; second = true; «mac_start» = o .«mac_start»; mac = o .mac }
-  unfolding noted
-  noted-second second e = rw (ne-eqb (d .tag) 0x87 (λ q. not-data second (sym e ∙ q)), ne-eqb (d .tag) 0x8E (λ q. not-mac second (sym e ∙ q)))
 
 -- ---- where the parts of an accepted field stand, and what they note
 

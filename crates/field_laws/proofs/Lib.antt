@@ -1,2 +1,4 @@
+pub mod Noted
 pub mod Acceptance
 pub mod Determined
+pub mod ReadBack

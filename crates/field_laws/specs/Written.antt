@@ -1,0 +1,36 @@
+-- A written field and its reading: what the reader must want, and what it then gives. Assumes nothing.
+use mathlib.Core.Path.{_≡_}
+use mathlib.Core.Bool.{Bool, true, not}
+use Prim.Native.Nat.{ℕ, _+_, _<_}
+use lib.Dec.{ltb}
+use lib.ListN.{length}
+use Rattle.octets.specs.Bytes.{Bytes}
+use Rattle.fields.specs.Wanted.{needOf, rightSize}
+use Rattle.fields.specs.Field.{readField, ciphertextOf, coveredOf, macOf}
+use Rattle.fields.specs.declared.Need.{Need}
+use Rattle.fields.specs.declared.Need.the-variants.{Must, May, MustNot}
+use Rattle.fields.specs.declared.Wanted.{Wanted}
+use Rattle.fields.specs.declared.Objects.{Objects}
+use Rattle.fields.specs.declared.FieldRead.the-variants.{Read}
+
+-- whether an object may be there, or be absent
+abbrev pub suits : Need → Bool → Bool
+suits Must there = there
+suits May there = true
+suits MustNot there = not there
+
+-- the reader wants encrypted data of that length, or none, and a second object, or none
+pub record Suits (w : Wanted) (ciphertext : Bytes) (there : Bool) : Type 0 where
+  pub encrypted : suits (w .«data») (ltb 0 (length ciphertext)) ≡ true
+  pub size : 0 < length ciphertext → rightSize w 0x87 (length ciphertext + 1) ≡ true
+  pub short : length ciphertext < 65535
+  pub second : suits (needOf (w .second)) there ≡ true
+
+-- the field is accepted, and its objects are these
+pub record ReadsBack (w : Wanted) (field ciphertext : Bytes) (there : Bool) (mac covered : Bytes) : Type 0 where
+  pub objects : Objects
+  pub accepted : readField w field ≡ Read objects
+  pub encrypted : ciphertextOf field objects ≡ ciphertext
+  pub second : objects .second ≡ there
+  pub covers : coveredOf field objects ≡ covered
+  pub tag : macOf field objects ≡ mac
