@@ -40,13 +40,13 @@ part-of-start j k m l h g =
 -- ---- where the parts of an accepted field stand, and what they note
 
 module _ {w : Wanted} {xs : Bytes} {at tag next : ℕ} {o o' : Objects} (part : Part w xs at tag next o o') where
-  tag-of : part .d .tag ≡ tag
+  pub tag-of : part .d .tag ≡ tag
   tag-of = ap (λ (d : DataObject). d .tag) (part .here .same) ∙ part .tagged
 
-  next-of : next ≡ at + 1 + part .here .size + part .here .n
+  pub next-of : next ≡ at + 1 + part .here .size + part .here .n
   next-of = sym (part .ends) ∙ ap (λ (d : DataObject). d .next) (part .here .same)
 
-  some-of : 1 ≤ part .here .n
+  pub some-of : 1 ≤ part .here .n
   some-of = some-byte w (getD xs at 0) (part .here .n) (part .here .fit)
 
   next-within : next ≤ length xs
@@ -60,12 +60,12 @@ module _ {w : Wanted} {xs : Bytes} {b next : ℕ} {o p : Objects} (part : Part w
   mac-start-of = ap (λ (o : Objects). o .«mac_start») after-mac ∙ ap (λ (d : DataObject). d .start) (part .here .same)
 
 -- the second object, there or not, leaves the data as it was
-record Kept (a b : ℕ) (o o' : Objects) : Type 0 where
-  data-start : o' .ciphertext ≡ o .ciphertext
-  data-length : o' .«ciphertext_len» ≡ o .«ciphertext_len»
-  present : o' .second ≡ ltb a b
+pub record Kept (a b : ℕ) (o o' : Objects) : Type 0 where
+  pub data-start : o' .ciphertext ≡ o .ciphertext
+  pub data-length : o' .«ciphertext_len» ≡ o .«ciphertext_len»
+  pub present : o' .second ≡ ltb a b
 
-kept : (w : Wanted) (xs : Bytes) (a b : ℕ) (o o' : Objects) → o .second ≡ false → Optional w xs a (tagOf (w .second)) b o o' → Kept a b o o'
+pub kept : (w : Wanted) (xs : Bytes) (a b : ℕ) (o o' : Objects) → o .second ≡ false → Optional w xs a (tagOf (w .second)) b o o' → Kept a b o o'
 kept w xs a b o o' f (inl (e, q)) =
     record {
       data-start = ap (λ (o : Objects). o .ciphertext) q;
@@ -81,35 +81,44 @@ kept w xs a b o o' f (inr part) =
       present = ap (λ (o : Objects). o .second) q ∙ sym (lt-ltb a b (omega (arith, next-of part)));
     }
 
-optional-behind : {w : Wanted} {xs : Bytes} {a tag b : ℕ} {o o' : Objects} → Optional w xs a tag b o o' → a ≤ b
+pub optional-behind : {w : Wanted} {xs : Bytes} {a tag b : ℕ} {o o' : Objects} → Optional w xs a tag b o o' → a ≤ b
 optional-behind (inl (e, q)) = omega (arith, e)
 optional-behind (inr part) = omega (arith, next-of part)
 
 -- what the first m bytes say of '87', there or not
-record DataSaid (xs : Bytes) (a m : ℕ) (o : Objects) : Type 0 where
-  unset : o .second ≡ false
-  encrypted : take (o .«ciphertext_len») (drop (o .ciphertext) xs) ≡ dataIn (take m xs)
-  ends : dataEnd (take m xs) ≡ a
+pub record DataSaid (xs : Bytes) (a m : ℕ) (o : Objects) : Type 0 where
+  pub unset : o .second ≡ false
+  pub encrypted : take (o .«ciphertext_len») (drop (o .ciphertext) xs) ≡ dataIn (take m xs)
+  pub ends : dataEnd (take m xs) ≡ a
 
 no-data-said : (xs : Bytes) (m : ℕ) → (getD (take m xs) 0 0 ≡ 0x87 → ⊥) → DataSaid xs 0 m none
 unfolding dataIn dataEnd
 no-data-said xs m h = record { unset = refl; encrypted = rw (ne-eqb (getD (take m xs) 0 0) 0x87 h); ends = rw (ne-eqb (getD (take m xs) 0 0) 0x87 h) }
+
+-- where '87' puts the encrypted data
+module _ {w : Wanted} {xs : Bytes} {a : ℕ} {o : Objects} (part : Part w xs 0 0x87 a none o) where
+  noted-first : o ≡ record { ciphertext = part .d .value + 1; «ciphertext_len» = part .d .len - 1; second = false; «mac_start» = 0; mac = 0 }
+  noted-first = sym (part .notes) ∙ noted-data none (part .d) (tag-of part)
+
+  pub data-start-of : o .ciphertext ≡ 1 + part .here .size + 1
+  data-start-of =
+      ap (λ (o : Objects). o .ciphertext) noted-first ∙ ap (λ (d : DataObject). d .value + 1) (part .here .same)
+
+  pub data-length-of : o .«ciphertext_len» ≡ part .here .n - 1
+  data-length-of =
+      ap (λ (o : Objects). o .«ciphertext_len») noted-first ∙ ap (λ (d : DataObject). d .len - 1) (part .here .same)
 
 data-said : (w : Wanted) (xs : Bytes) (a m : ℕ) (o : Objects) → a ≤ m → m ≤ length xs → Part w xs 0 0x87 a none o → DataSaid xs a m o
 unfolding dataIn dataEnd dataBehind endBehind
 data-said w xs a m o h l part =
     let n : ℕ = part .here .n in
     let size : ℕ = part .here .size in
-    let q : o ≡ record { ciphertext = part .d .value + 1; «ciphertext_len» = part .d .len - 1; second = false; «mac_start» = 0; mac = 0 } =
-    sym (part .notes) ∙ noted-data none (part .d) (tag-of part) in
-    let v : part .d .value ≡ 1 + size = ap (λ (d : DataObject). d .value) (part .here .same) in
-    let k : part .d .len ≡ n = ap (λ (d : DataObject). d .len) (part .here .same) in
     let t : getD (take m xs) 0 0 ≡ 0x87 = getD-take m xs 0 0 (omega (arith, next-of part)) ∙ part .tagged in
     let r : readLength (take m xs) 1 ≡ Length n size = read-prefix xs 1 n size (part .here .read) m (omega (arith, next-of part)) l in
     record {
-      unset = ap (λ (o : Objects). o .second) q;
+      unset = ap (λ (o : Objects). o .second) (noted-first part);
       encrypted =
-          ap₂ (λ (i j : ℕ). take i (drop j xs)) (ap (λ (o : Objects). o .«ciphertext_len») q ∙ ap (λ (i : ℕ). i - 1) k) (ap (λ (o : Objects). o .ciphertext) q ∙ ap (λ (i : ℕ). i + 1) v)
+          ap₂ (λ (i j : ℕ). take i (drop j xs)) (data-length-of part) (data-start-of part)
           ∙ sym (part-of-start (1 + size + 1) (n - 1) m xs (omega (arith, next-of part, some-of part)) (omega (arith, next-of part, some-of part)))
           ∙ sym (rw (eq-eqb (getD (take m xs) 0 0) 0x87 t, r));
       ends = rw (eq-eqb (getD (take m xs) 0 0) 0x87 t, r) (sym (next-of part));
@@ -121,19 +130,19 @@ module _ (w : Wanted) (tag : ℕ) (e : tag ≡ tagOf (w .second)) where
   other : (t : ℕ) → (tagOf (w .second) ≡ t → ⊥) → eqb tag t ≡ false
   other t f = ne-eqb tag t (λ q. f (sym e ∙ q))
 
-  second-size : (n : ℕ) → rightSize w tag n ≡ true → n ≡ sizeOf (w .second)
+  pub second-size : (n : ℕ) → rightSize w tag n ≡ true → n ≡ sizeOf (w .second)
   unfolding rightSize
   second-size n f = eqb-true n (sizeOf (w .second)) (rw (other 0x87 (not-data (w .second)), other 0x8E (not-mac (w .second))) at f)
 
-  second-value : (xs : Bytes) (at : ℕ) → rightValue w tag xs at ≡ true → rightSecond (w .second) xs at ≡ true
+  pub second-value : (xs : Bytes) (at : ℕ) → rightValue w tag xs at ≡ true → rightSecond (w .second) xs at ≡ true
   unfolding rightValue
   second-value xs at f = rw (other 0x87 (not-data (w .second)), other 0x8E (not-mac (w .second))) at f
 
-both : (a b : Bool) → (a && b) ≡ true → (a ≡ true) × (b ≡ true)
+pub both : (a b : Bool) → (a && b) ≡ true → (a ≡ true) × (b ≡ true)
 both true b e = (refl, e)
 both false b e = let z : _≡_ {A = ℕ} 0 1 = cc in let n : ⊥ = omega arith in absurd n
 
-status-value : (second : Second) (sw1 sw2 : ℕ) → second ≡ Status sw1 sw2 → (xs : Bytes) (at : ℕ) → rightSecond second xs at ≡ true
+pub status-value : (second : Second) (sw1 sw2 : ℕ) → second ≡ Status sw1 sw2 → (xs : Bytes) (at : ℕ) → rightSecond second xs at ≡ true
     → (getD xs at 0 ≡ sw1) × (getD xs (at + 1) 0 ≡ sw2)
 unfolding rightSecond
 status-value second sw1 sw2 e xs at f =
@@ -149,10 +158,10 @@ pub record Determined (w : Wanted) (xs : Bytes) (p : Objects) : Type 0 where
   pub status : (sw1 sw2 : ℕ) → w .second ≡ Status sw1 sw2 → (sw1In (coveredOf xs p) ≡ sw1) × (sw2In (coveredOf xs p) ≡ sw2)
 
 module _ (w : Wanted) (xs : Bytes) (p : Objects) (e : readField w xs ≡ Read p) where
-  parts : Accepted w xs p
+  pub parts : Accepted w xs p
   parts = accepted w xs p e
 
-  inside : parts .tail .b ≤ length xs
+  pub inside : parts .tail .b ≤ length xs
   inside = omega (arith, next-of (parts .tail .last))
 
   no-data-first : (b : ℕ) (o o' : Objects) → Optional w xs 0 (tagOf (w .second)) b o o' → getD (take b xs) 0 0 ≡ 0x87 → ⊥
@@ -161,17 +170,17 @@ module _ (w : Wanted) (xs : Bytes) (p : Objects) (e : readField w xs ≡ Read p)
   no-data-first b o o' (inr part) g =
       not-data (w .second) (sym (getD-take b xs 0 0 (omega (arith, next-of part)) ∙ part .tagged) ∙ g)
 
-  said : DataSaid xs (parts .a) (parts .tail .b) (parts .o1)
+  pub said : DataSaid xs (parts .a) (parts .tail .b) (parts .o1)
   said = go (parts .a) (parts .o1) (parts .first) (parts .tail)
     where
       go : (a : ℕ) (o : Objects) → Optional w xs 0 0x87 a none o → (t : Tail w xs a o p) → DataSaid xs a (t .b) o
       go a o (inl (f, q)) t = rw (f, q) (no-data-said xs (t .b) (no-data-first (t .b) o (t .o2) (rw f at (t .second))))
       go a o (inr part) t = data-said w xs a (t .b) o (optional-behind (t .second)) (omega (arith, next-of (t .last))) part
 
-  left : Kept (parts .a) (parts .tail .b) (parts .o1) (parts .tail .o2)
+  pub left : Kept (parts .a) (parts .tail .b) (parts .o1) (parts .tail .o2)
   left = kept w xs (parts .a) (parts .tail .b) (parts .o1) (parts .tail .o2) (said .unset) (parts .tail .second)
 
-  last : p ≡ record {
+  pub last : p ≡ record {
     ciphertext = parts .tail .o2 .ciphertext;
     «ciphertext_len» = parts .tail .o2 .«ciphertext_len»;
     second = parts .tail .o2 .second;
@@ -180,16 +189,16 @@ module _ (w : Wanted) (xs : Bytes) (p : Objects) (e : readField w xs ≡ Read p)
   }
   last = after-mac (parts .tail .last)
 
-  cut : p .«mac_start» ≡ parts .tail .b
+  pub cut : p .«mac_start» ≡ parts .tail .b
   cut = mac-start-of (parts .tail .last)
 
   covered-length : length (coveredOf xs p) ≡ parts .tail .b
   covered-length = ap (λ (i : ℕ). length (take i xs)) cut ∙ length-take-le (parts .tail .b) xs inside
 
-  second-there : p .second ≡ ltb (parts .a) (parts .tail .b)
+  pub second-there : p .second ≡ ltb (parts .a) (parts .tail .b)
   second-there = ap (λ (o : Objects). o .second) last ∙ left .present
 
-  status-there : (sw1 sw2 : ℕ) → w .second ≡ Status sw1 sw2 → p .second ≡ true
+  pub status-there : (sw1 sw2 : ℕ) → w .second ≡ Status sw1 sw2 → p .second ≡ true
   status-there sw1 sw2 f =
       let g : lacks (needOf (w .second)) (p .second) ≡ false = all-there w xs p e .1 in
       not-false (p .second) (rw f at g)
@@ -215,15 +224,34 @@ module _ (w : Wanted) (xs : Bytes) (p : Objects) (e : readField w xs ≡ Read p)
                 ∙ values .1,
           )
 
+  -- the data are those that '87' noted
+  pub data-noted : ciphertextOf xs p ≡ take (parts .o1 .«ciphertext_len») (drop (parts .o1 .ciphertext) xs)
+  data-noted =
+      ap₂ (λ (i j : ℕ). take i (drop j xs)) (ap (λ (o : Objects). o .«ciphertext_len») last ∙ left .data-length) (ap (λ (o : Objects). o .ciphertext) last ∙ left .data-start)
+
   pub determined : Determined w xs p
   unfolding secondIn
   determined =
       record {
         encrypted =
-            ap₂ (λ (i j : ℕ). take i (drop j xs)) (ap (λ (o : Objects). o .«ciphertext_len») last ∙ left .data-length) (ap (λ (o : Objects). o .ciphertext) last ∙ left .data-start)
+            data-noted
             ∙ said .encrypted
             ∙ ap (λ (i : ℕ). dataIn (take i xs)) (sym cut);
         present =
             second-there ∙ ap₂ ltb (sym (said .ends) ∙ ap (λ (i : ℕ). dataEnd (take i xs)) (sym cut)) (sym covered-length);
         status = status-said;
       }
+
+-- two accepted fields with the same bytes before '8E' hold the same
+module _ (w v : Wanted) (xs ys : Bytes) (p q : Objects) (e : readField w xs ≡ Read p) (f : readField v ys ≡ Read q) (c : coveredOf xs p ≡ coveredOf ys q) where
+  pub same-data : ciphertextOf xs p ≡ ciphertextOf ys q
+  same-data = determined w xs p e .encrypted ∙ ap dataIn c ∙ sym (determined v ys q f .encrypted)
+
+  pub same-le : p .second ≡ q .second
+  same-le = determined w xs p e .present ∙ ap secondIn c ∙ sym (determined v ys q f .present)
+
+  pub same-status : (s1 s2 t1 t2 : ℕ) → w .second ≡ Status s1 s2 → v .second ≡ Status t1 t2 → (s1 ≡ t1) × (s2 ≡ t2)
+  same-status s1 s2 t1 t2 g h = (
+    sym (determined w xs p e .status s1 s2 g .0) ∙ ap sw1In c ∙ determined v ys q f .status t1 t2 h .0,
+    sym (determined w xs p e .status s1 s2 g .1) ∙ ap sw2In c ∙ determined v ys q f .status t1 t2 h .1,
+  )

@@ -2,3 +2,4 @@ pub mod Noted
 pub mod Acceptance
 pub mod Determined
 pub mod ReadBack
+pub mod Shortest
