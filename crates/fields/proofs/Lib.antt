@@ -1,3 +1,4 @@
+pub mod Examples
 pub mod ObjectCases
 pub mod Inversion
 pub mod Walk

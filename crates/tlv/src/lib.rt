@@ -16,10 +16,10 @@ pub enum LengthRead {
 pub fn length_size(n: usize) -> usize
     ensures { λ r. ⌜ r ≡ length (lengthField n) ⌝ }
 {
-    if n < 128 {
+    if n <= 127 {
         return 1;
     }
-    if n < 256 {
+    if n <= 255 {
         return 2;
     }
     3
