@@ -1,0 +1,4 @@
+pub mod Suites
+pub mod Session
+pub mod Valid
+pub mod Opening
