@@ -1,0 +1,58 @@
+-- Document 01, "The numbered answers": a call's answer, and the session that it leaves. Assumes nothing.
+use mathlib.Core.Bool.{Bool, _||_}
+use mathlib.Core.Option.{Option, none, some}
+use Prim.Native.Nat.{ℕ}
+use lib.Dec.{eqb}
+use Rattle.octets.specs.Choice.{if_then_else_}
+use Rattle.refusal.specs.Refusal.{number}
+use Rattle.refusal.specs.declared.Refusal.{Refusal}
+use Rattle.fields.specs.declared.Objects.{Objects}
+use Rattle.fields.specs.declared.FieldRead.{FieldRead}
+use Rattle.fields.specs.declared.FieldRead.the-variants.{Read, Malformed as BadField, Missing}
+use Rattle.refusal.specs.declared.Refusal.the-variants.{Malformed, MissingObject, BadPadding}
+use Rattle.session.specs.Session.{closed}
+use Rattle.session.specs.declared.Session.{Session}
+
+infixr 2 require_else_⨾_ _and-then_
+pub data Answer (A : Type 0) : Type 0 where
+  refused : Refusal → Answer A
+  gave : A → Answer A
+
+-- the first refusal that applies: one test, one refusal, one line
+unfoldable pub require_else_⨾_ : {A : Type 0} → Bool → Refusal → Answer A → Answer A
+require ok else r ⨾ rest = if ok then rest else refused r
+
+-- one stage after another
+unfoldable pub _and-then_ : {A B : Type 0} → Answer A → (A → Answer B) → Answer B
+refused r and-then more = refused r
+gave a and-then more = more a
+
+-- what a call gives, and the next session
+pub record Outcome (A : Type 0) : Type 0 where
+  pub gives : A
+  pub next : Session
+
+pub record Out (A : Type 0) : Type 0 where
+  pub answer : Answer A
+  pub next : Session
+
+-- a wrong MAC and wrong padding close the session; every other refusal keeps it as it was
+unfoldable pub afterRefusal : Session → Refusal → Session
+afterRefusal s r = if eqb (number r) 9 || eqb (number r) 10 then closed s else s
+
+unfoldable pub concluded : {A : Type 0} → Session → Answer (Outcome A) → Out A
+concluded s (refused r) = record { answer = refused r; next = afterRefusal s r }
+concluded s (gave o) = record { answer = gave (o .gives); next = o .next }
+
+-- ---- the stages that read
+
+-- 7 at the first breach, 8 where an object is lacking at the end
+unfoldable pub objectsOf : FieldRead → Answer Objects
+objectsOf (Read o) = gave o
+objectsOf (BadField b) = refused Malformed
+objectsOf (Missing tag end) = refused MissingObject
+
+-- 10 where the padding is wrong
+unfoldable pub textOf : {A : Type 0} → Option A → Answer A
+textOf (some d) = gave d
+textOf none = refused BadPadding

@@ -1,0 +1,94 @@
+-- Document 01: the host wraps a command, and the card unwraps it. Assumes nothing.
+use mathlib.Core.Bool.{Bool}
+use Prim.Native.Nat.{ℕ, _+_}
+use lib.Dec.{leb, ltb}
+use lib.ListN.{length, take}
+use Rattle.octets.specs.Bytes.{Bytes}
+use Rattle.compare.specs.Same.{same}
+use Rattle.fields.specs.Field.{readField, ciphertextOf, coveredOf, macOf}
+use Rattle.fields.specs.declared.Objects.{Objects}
+use Rattle.objects.specs.Objects.{commandObjects, commandField}
+use Rattle.objects.specs.Lengths.{commandLength}
+use Rattle.objects.specs.MacInput.{commandMacInput}
+use Rattle.refusal.specs.declared.Refusal.the-variants.{SessionClosed, OutOfTurn, NotPermitted, TooLong, CommandLimit, BufferTooSmall, BadMac}
+use Rattle.session.specs.Session.{commandTaken, keyIn}
+use Rattle.session.specs.Turn.{isTurn}
+use Rattle.session.specs.Valid.{countsAsOpen}
+use Rattle.session.specs.declared.Side.the-variants.{Host, Card}
+use Rattle.session.specs.declared.Phase.the-variants.{Ready}
+use Rattle.session.specs.declared.Session.{Session}
+use Rattle.ciphers.specs.Ciphers.{Ciphers}
+use Rattle.protocol.specs.Message.{CommandHeader, Message, Command, maxCommandData, maxCommandField, commandLimit}
+use Rattle.protocol.specs.Permission.{insPermitted, commandPermitted, commandWanted}
+use Rattle.protocol.specs.Counter.{commandCounter}
+use Rattle.protocol.specs.Answer.{Answer, gave, require_else_⨾_, _and-then_, Outcome, Out, concluded, objectsOf, textOf}
+
+-- what the MAC of a command is computed over: its chaining value, its encoded header, and the field's bytes before '8E'
+unfoldable pub commandInput : Bytes → CommandHeader → Bytes → Bytes
+commandInput mcv h covered = commandMacInput mcv (h .ins) (h .p1) (h .p2) covered
+
+-- the tests of a wrap, of a command with n bytes of data
+unfoldable pub wrapCommandChecks : Session → CommandHeader → ℕ → ℕ → Answer (Unit {0})
+wrapCommandChecks s h n room =
+    require countsAsOpen s else SessionClosed ⨾
+    require isTurn Host Ready s else OutOfTurn ⨾
+    require commandPermitted h n else NotPermitted ⨾
+    require leb n maxCommandData else TooLong ⨾
+    require ltb (s .count) commandLimit else CommandLimit ⨾
+    require leb (commandLength n (h .le)) room else BufferTooSmall (commandLength n (h .le)) ⨾
+    gave tt
+
+-- the tests of an unwrap, of a field of n bytes
+unfoldable pub unwrapCommandChecks : Session → ℕ → ℕ → Answer (Unit {0})
+unwrapCommandChecks s ins n =
+    require countsAsOpen s else SessionClosed ⨾
+    require isTurn Card Ready s else OutOfTurn ⨾
+    require insPermitted ins else NotPermitted ⨾
+    require leb n maxCommandField else TooLong ⨾
+    require ltb (s .count) commandLimit else CommandLimit ⨾
+    gave tt
+
+-- what an unwrap gives
+pub record CommandGiven : Type 0 where
+  pub payload : Bytes
+  pub le : Bool
+
+module _ (C : Ciphers) where
+  -- the full MAC under the session's SK_MAC
+  unfoldable pub commandMac : Session → CommandHeader → Bytes → Bytes
+  commandMac s h covered = C .mac (keyIn (s .suite) (s .«sk_mac»)) (commandInput (s .«command_mcv») h covered)
+
+  -- a command is encrypted under the counter of its number, which is one more than those before it
+  unfoldable pub commandCiphertext : Session → Bytes → Bytes
+  commandCiphertext s d = C .encrypt (keyIn (s .suite) (s .«sk_enc»)) (commandCounter (s .count + 1)) d
+
+  -- '8E' holds the first 8 bytes of the full MAC; all 16 become the next chaining value
+  unfoldable pub commandWrapped : Session → CommandHeader → Bytes → Outcome Bytes
+  commandWrapped s h c =
+      let full = commandMac s h (commandObjects c (h .le)) in
+      record { gives = commandField c (h .le) (take 8 full); next = commandTaken s full }
+
+  unfoldable pub hostWraps : Session → Command → ℕ → Out Bytes
+  hostWraps s m room =
+      concluded s (
+      wrapCommandChecks s (m .header) (length (m .payload)) room and-then (λ checked.
+      gave (commandWrapped s (m .header) (commandCiphertext s (m .payload))))
+      )
+
+  -- header and Le of a command that is read
+  abbrev pub headerRead : ℕ → ℕ → ℕ → Objects → CommandHeader
+  headerRead ins p1 p2 o = record { ins = ins; p1 = p1; p2 = p2; le = o .second }
+
+  unfoldable pub cardUnwraps : Session → ℕ → ℕ → ℕ → Bytes → ℕ → Out CommandGiven
+  cardUnwraps s ins p1 p2 field room =
+      concluded s (
+      unwrapCommandChecks s ins (length field) and-then (λ checked.
+      objectsOf (readField (commandWanted ins) field) and-then (λ o.
+      require leb (o .«ciphertext_len») room else BufferTooSmall (o .«ciphertext_len») ⨾
+      require same (macOf field o) (take 8 (commandMac s (headerRead ins p1 p2 o) (coveredOf field o))) else BadMac ⨾
+      textOf (C .decrypt (keyIn (s .suite) (s .«sk_enc»)) (commandCounter (s .count + 1)) (ciphertextOf field o)) and-then (λ d.
+      gave (record {
+        gives = record { payload = d; le = o .second };
+        next = commandTaken s (commandMac s (headerRead ins p1 p2 o) (coveredOf field o));
+      }))))
+      )

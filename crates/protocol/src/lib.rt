@@ -1,0 +1,1 @@
+// The four calls as definitions, and the demands about them. No code.
