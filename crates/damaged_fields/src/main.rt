@@ -12,9 +12,13 @@ fn main() {
     row::head();
     command_field();
     response_field();
-    made::commands();
-    made::lengths();
+    made::lacking();
+    made::tags();
+    made::order();
+    made::length_forms();
+    made::length_sizes();
     made::responses();
+    made::response_length_sizes();
     made::other_commands();
 }
 
