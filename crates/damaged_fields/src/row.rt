@@ -1,0 +1,65 @@
+// A row of the table: the field, what was done to it, and the reader's answer. Columns begin at 0, 9, 33, 37, 50 and 55.
+use fields::Breach;
+use fields::FieldRead;
+use fields::Rule;
+
+pub fn head() {
+    print::text(b"field    damage                  no  rule         tag  offset\n");
+}
+
+// 9 and 24 bytes of text.
+pub fn begin(name: &[u8], damage: &[u8]) {
+    print::text(name);
+    print::text(damage);
+}
+
+pub fn begin_changed(name: &[u8], at: usize, change: u8) {
+    print::text(name);
+    print::text(b"byte ");
+    decimal(at);
+    print::text(b" xor ");
+    print::byte(change);
+    print::text(b"         ");
+}
+
+pub fn begin_cut_off(name: &[u8], n: usize) {
+    print::text(name);
+    print::text(b"first ");
+    decimal(n);
+    print::text(b" bytes         ");
+}
+
+pub fn end(read: FieldRead) {
+    match read {
+        FieldRead::Read(_) => print::text(b" 0  accepted\n"),
+        FieldRead::Malformed(breach) => malformed(breach),
+        FieldRead::Missing(tag, end) => place(b" 8  missing      ", tag, end),
+    }
+}
+
+fn malformed(breach: Breach) {
+    let rule = breach.rule;
+    match rule {
+        Rule::Tag => place(b" 7  tag          ", breach.tag, breach.offset),
+        Rule::LengthForm => place(b" 7  length form  ", breach.tag, breach.offset),
+        Rule::LengthSize => place(b" 7  length size  ", breach.tag, breach.offset),
+        Rule::BytesLeft => place(b" 7  bytes left   ", breach.tag, breach.offset),
+        Rule::Value => place(b" 7  value        ", breach.tag, breach.offset),
+    }
+}
+
+fn place(answer: &[u8], tag: u8, offset: usize) {
+    print::text(answer);
+    print::byte(tag);
+    print::text(b"      ");
+    decimal(offset);
+    print::newline();
+}
+
+// Three places wide: the longest field here has 146 bytes.
+fn decimal(value: usize) {
+    if value < 100 {
+        print::text(b" ");
+    }
+    print::number(value);
+}
