@@ -3,3 +3,4 @@ pub mod Acceptance
 pub mod Determined
 pub mod ReadBack
 pub mod Shortest
+pub mod CoveredWritten

@@ -1,7 +1,7 @@
 -- A written field and its reading: what the reader must want, and what it then gives. Assumes nothing.
 use mathlib.Core.Path.{_≡_}
 use mathlib.Core.Bool.{Bool, true, not}
-use Prim.Native.Nat.{ℕ, _+_, _<_}
+use Prim.Native.Nat.{ℕ, _+_, _%_, _<_, _≤_}
 use lib.Dec.{ltb}
 use lib.ListN.{length}
 use Rattle.octets.specs.Bytes.{Bytes}
@@ -18,6 +18,10 @@ abbrev pub suits : Need → Bool → Bool
 suits Must there = there
 suits May there = true
 suits MustNot there = not there
+
+-- encrypted data: nothing, or whole blocks up to a limit
+abbrev pub WholeBlocks : ℕ → Bytes → Type 0
+WholeBlocks limit c = (length c % 16 ≡ 0) × (length c ≤ limit)
 
 -- the reader wants encrypted data of that length, or none, and a second object, or none
 pub record Suits (w : Wanted) (ciphertext : Bytes) (there : Bool) : Type 0 where

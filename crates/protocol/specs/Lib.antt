@@ -4,3 +4,5 @@ pub mod Counter
 pub mod Answer
 pub mod Command
 pub mod Response
+pub mod Transcript
+pub mod Agreement
