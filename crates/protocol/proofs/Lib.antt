@@ -1,3 +1,5 @@
 pub mod ByteLists
 pub mod Logs
 pub mod Channel
+pub mod CallCases
+pub mod Invariant
