@@ -21,9 +21,9 @@ bytes-append xs ys f g i l =
     by-test i (length xs)
     (λ h. subst (λ (b : ℕ). b < 256) (sym (List·getD-append xs ys 0 i h)) (f i h))
     (λ h.
-      let e : i ≡ length xs + (i - length xs) = omega arith in
-      subst (λ (b : ℕ). b < 256) (sym (ap (λ (j : ℕ). getD (xs ++ ys) j 0) e ∙ getD-append-add xs ys (i - length xs) 0))
-      (g (i - length xs) (omega (arith, length-append xs ys))))
+    let e : i ≡ length xs + (i - length xs) = omega arith in
+    subst (λ (b : ℕ). b < 256) (sym (ap (λ (j : ℕ). getD (xs ++ ys) j 0) e ∙ getD-append-add xs ys (i - length xs) 0))
+    (g (i - length xs) (omega (arith, length-append xs ys))))
 
 pub bytes-drop : (n : ℕ) (xs : Bytes) → IsBytes xs → IsBytes (drop n xs)
 bytes-drop n xs f i l = subst (λ (b : ℕ). b < 256) (sym (getD-drop n xs i 0)) (f (n + i) (omega (arith, length-drop n xs)))

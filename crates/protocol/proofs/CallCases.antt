@@ -179,8 +179,8 @@ module _ (C : Ciphers) where
 
   pub host-wraps : (Q : Out Bytes → Type 0) (s : Session) (m : Command) (room : ℕ) → Refuses Q s
       → (MayWrapCommand s (m .header) (length (m .payload)) room
-          → let full = commandMac C s (m .header) (commandObjects (commandCiphertext C s (m .payload)) (m .header .le)) in
-            Q (record { answer = gave (commandField (commandCiphertext C s (m .payload)) (m .header .le) (take 8 full)); next = commandTaken s full }))
+      → let full = commandMac C s (m .header) (commandObjects (commandCiphertext C s (m .payload)) (m .header .le)) in
+      Q (record { answer = gave (commandField (commandCiphertext C s (m .payload)) (m .header .le) (take 8 full)); next = commandTaken s full }))
       → Q (hostWraps C s m room)
   unfolding hostWraps concluded commandWrapped
   host-wraps Q s m room stop go =
@@ -189,9 +189,9 @@ module _ (C : Ciphers) where
 
   pub card-wraps : (Q : Out Bytes → Type 0) (s : Session) (m : Response) (room : ℕ) → Refuses Q s
       → (MayWrapResponse s (m .header) (length (m .payload)) room
-          → let c = responseCiphertext C s (m .payload) in
-            let full = responseMac C s (responseObjects c (m .header .sw1) (m .header .sw2)) in
-            Q (record { answer = gave (responseField c (m .header .sw1) (m .header .sw2) (take 8 full)); next = responseTaken s full }))
+      → let c = responseCiphertext C s (m .payload) in
+      let full = responseMac C s (responseObjects c (m .header .sw1) (m .header .sw2)) in
+      Q (record { answer = gave (responseField c (m .header .sw1) (m .header .sw2) (take 8 full)); next = responseTaken s full }))
       → Q (cardWraps C s m room)
   unfolding cardWraps concluded responseWrapped
   card-wraps Q s m room stop go =
@@ -208,10 +208,10 @@ module _ (C : Ciphers) where
 
   pub card-unwraps : (Q : Out CommandGiven → Type 0) (s : Session) (ins p1 p2 : ℕ) (field : Bytes) (room : ℕ) → Refuses Q s
       → ((o : Objects) (d : Bytes) → CommandRead s ins p1 p2 field room o d
-          → Q (record {
-            answer = gave (record { payload = d; le = o .second });
-            next = commandTaken s (commandMac C s (headerRead C ins p1 p2 o) (coveredOf field o));
-          }))
+      → Q (record {
+        answer = gave (record { payload = d; le = o .second });
+        next = commandTaken s (commandMac C s (headerRead C ins p1 p2 o) (coveredOf field o));
+      }))
       → Q (cardUnwraps C s ins p1 p2 field room)
   unfolding cardUnwraps concluded
   card-unwraps Q s ins p1 p2 field room stop go =
@@ -238,7 +238,7 @@ module _ (C : Ciphers) where
 
   pub host-unwraps : (Q : Out Response → Type 0) (s : Session) (sw : StatusWord) (field : Bytes) (room : ℕ) → Refuses Q s
       → ((o : Objects) (d : Bytes) → ResponseRead s sw field room o d
-          → Q (record { answer = gave (record { header = sw; payload = d }); next = responseTaken s (responseMac C s (coveredOf field o)) }))
+      → Q (record { answer = gave (record { header = sw; payload = d }); next = responseTaken s (responseMac C s (coveredOf field o)) }))
       → Q (hostUnwraps C s sw field room)
   unfolding hostUnwraps concluded
   host-unwraps Q s sw field room stop go =

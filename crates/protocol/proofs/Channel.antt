@@ -118,7 +118,7 @@ module _ (C : Ciphers) (enc : Bytes) {H : Type 0} (D : Direction H) where
   module _ (laws : Laws C) (law : Lawful D) (mac-key : IsKey (D .key)) (enc-key : IsKey enc) (A W : List (Entry H)) (m : Message H) (c covered : Bytes)
       (channel : Channel A W)
       (reads : (h : H) (c' : Bytes) → WholeBlocks 65519 c'
-          → D .input (chaining C (D .key) A) (m .header) covered ≡ D .input (chaining C (D .key) A) h (D .objects h c') → (m .header ≡ h) × (c ≡ c'))
+      → D .input (chaining C (D .key) A) (m .header) covered ≡ D .input (chaining C (D .key) A) h (D .objects h c') → (m .header ≡ h) × (c ≡ c'))
       (text : C .decrypt enc (D .counter (suc (length A))) c ≡ some (m .payload)) where
     i : Bytes
     i = D .input (chaining C (D .key) A) (m .header) covered
@@ -136,10 +136,10 @@ module _ (C : Ciphers) (enc : Bytes) {H : Type 0} (D : Direction H) where
         record {
           more = t .more;
           is =
-            append-snoc A (record { message = m; input = i }) (t .more)
-            ∙ ap (λ (x : Entry H). A ++ x ∷ t .more) whole
-            ∙ ap (λ (log : List (Entry H)). A ++ log) (sym (t .is))
-            ∙ channel .is;
+              append-snoc A (record { message = m; input = i }) (t .more)
+              ∙ ap (λ (x : Entry H). A ++ x ∷ t .more) whole
+              ∙ ap (λ (log : List (Entry H)). A ++ log) (sym (t .is))
+              ∙ channel .is;
           chained = channel .chained;
         }
       where

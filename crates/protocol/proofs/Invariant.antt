@@ -71,8 +71,7 @@ module _ (ch : Bytes) (ins p1 p2 : ℕ) (field : Bytes) (o : Objects) (read : re
       let j : p1 ≡ h .p1 = cc in
       let l : p2 ≡ h .p2 = cc in
       let d = determined (commandWanted ins) field o read in
-      let le : o .second ≡ h .le = d .present ∙ ap secondIn (a .1) ∙ command-le c blocks (h .le) in
-      (
+      let le : o .second ≡ h .le = d .present ∙ ap secondIn (a .1) ∙ command-le c blocks (h .le) in (
         (λ t. record { ins = i t; p1 = j t; p2 = l t; le = le t }),
         d .encrypted ∙ ap dataIn (a .1) ∙ command-data c blocks (h .le),
       )
@@ -96,7 +95,7 @@ module _ (ch : Bytes) (sw : StatusWord) (field : Bytes) (o : Objects) (read : re
 pub ready-pending : {P : Type 0} → Ready ≡ Pending → P
 ready-pending e = let z : _≡_ {A = ℕ} 0 1 = cc in let o : ⊥ = omega arith in absurd o
 
-host-card : {P : Type 0} → Host ≡ Card → P
+pub host-card : {P : Type 0} → Host ≡ Card → P
 host-card e = let z : _≡_ {A = ℕ} 0 1 = cc in let o : ⊥ = omega arith in absurd o
 
 -- a session that counts as open has at most 65,535 commands
@@ -106,11 +105,11 @@ open-count s e =
     let a : (isOpen (s .phase) ≡ true) × ((leb (s .count) 65535 && keepsPhase s (s .phase)) ≡ true) = both (isOpen (s .phase)) (leb (s .count) 65535 && keepsPhase s (s .phase)) e in
     leb-true (s .count) 65535 (both (leb (s .count) 65535) (keepsPhase s (s .phase)) (a .1) .0)
 
-closed-shut : {P : Type 0} (s : Session) → countsAsOpen (closed s) ≡ true → P
+pub closed-shut : {P : Type 0} (s : Session) → countsAsOpen (closed s) ≡ true → P
 unfolding countsAsOpen
 closed-shut s e = let z : _≡_ {A = ℕ} 0 1 = cc in let o : ⊥ = omega arith in absurd o
 
-after-refusal : (Q : Session → Type 0) (s : Session) (r : Refusal) → Q s → Q (closed s) → Q (afterRefusal s r)
+pub after-refusal : (Q : Session → Type 0) (s : Session) (r : Refusal) → Q s → Q (closed s) → Q (afterRefusal s r)
 unfolding afterRefusal
 after-refusal Q s r stays shut = go (eqb (number r) 9 || eqb (number r) 10)
   where
@@ -207,7 +206,7 @@ module _ (C : Ciphers) (K : Keys) where
         ap₂ (λ (k mcv : Bytes). C .mac k (commandInput mcv (m .header) (commandObjects (commandCiphertext C h (m .payload)) (m .header .le)))) (host .mac-is) (host .command-is)
         ∙ ap (λ (x : Bytes). C .mac (K .mac) (commandInput (chaining C (K .mac) (t .commandsWrapped)) (m .header) (commandObjects x (m .header .le)))) command-encrypted
 
-    command-wrapped : Inv (commandTaken h (commandMac C h (m .header) (commandObjects (commandCiphertext C h (m .payload)) (m .header .le)))) c
+    pub command-wrapped : Inv (commandTaken h (commandMac C h (m .header) (commandObjects (commandCiphertext C h (m .payload)) (m .header .le)))) c
         (noted C K t (wrapCommand Host m room)
         (commandField (commandCiphertext C h (m .payload)) (m .header .le) (take 8 (commandMac C h (m .header) (commandObjects (commandCiphertext C h (m .payload)) (m .header .le))))))
     unfolding noted wrapped
@@ -222,8 +221,8 @@ module _ (C : Ciphers) (K : Keys) where
           command-channel = channel-wrapped C (K .enc) (commands K) (t .commandsAccepted) (t .commandsWrapped) m (v .command-channel) (may .short) y;
           response-channel = v .response-channel;
           command-fields =
-            written-snoc C (K .enc) (commands K) [] (t .commandsWrapped) (t .commandFields) w _ (v .command-fields)
-            (ap₂ (λ (x mac : Bytes). commandField x (m .header .le) (take 8 mac)) command-encrypted command-maced);
+              written-snoc C (K .enc) (commands K) [] (t .commandsWrapped) (t .commandFields) w _ (v .command-fields)
+              (ap₂ (λ (x mac : Bytes). commandField x (m .header .le) (take 8 mac)) command-encrypted command-maced);
           response-fields = v .response-fields;
         }
 
@@ -250,7 +249,7 @@ module _ (C : Ciphers) (K : Keys) where
         ap₂ (λ (k mcv : Bytes). C .mac k (responseMacInput mcv (responseObjects (responseCiphertext C c (m .payload)) (m .header .sw1) (m .header .sw2)))) (card .rmac-is) (card .response-is)
         ∙ ap (λ (z : Bytes). C .mac (K .rmac) (responseMacInput (chaining C (K .rmac) (t .responsesWrapped)) (responseObjects z (m .header .sw1) (m .header .sw2)))) response-encrypted
 
-    response-wrapped : Inv h (responseTaken c (responseMac C c (responseObjects (responseCiphertext C c (m .payload)) (m .header .sw1) (m .header .sw2))))
+    pub response-wrapped : Inv h (responseTaken c (responseMac C c (responseObjects (responseCiphertext C c (m .payload)) (m .header .sw1) (m .header .sw2))))
         (noted C K t (wrapResponse Card m room)
         (responseField (responseCiphertext C c (m .payload)) (m .header .sw1) (m .header .sw2)
         (take 8 (responseMac C c (responseObjects (responseCiphertext C c (m .payload)) (m .header .sw1) (m .header .sw2))))))
@@ -265,8 +264,8 @@ module _ (C : Ciphers) (K : Keys) where
           response-channel = channel-wrapped C (K .enc) (responses K) (t .responsesAccepted) (t .responsesWrapped) m (v .response-channel) (may .short) y;
           command-fields = v .command-fields;
           response-fields =
-            written-snoc C (K .enc) (responses K) [] (t .responsesWrapped) (t .responseFields) x _ (v .response-fields)
-            (ap₂ (λ (z mac : Bytes). responseField z (m .header .sw1) (m .header .sw2) (take 8 mac)) response-encrypted response-maced);
+              written-snoc C (K .enc) (responses K) [] (t .responsesWrapped) (t .responseFields) x _ (v .response-fields)
+              (ap₂ (λ (z mac : Bytes). responseField z (m .header .sw1) (m .header .sw2) (take 8 mac)) response-encrypted response-maced);
         }
 
   -- ---- the card accepts a command
@@ -313,7 +312,7 @@ module _ (C : Ciphers) (K : Keys) where
           input = commandInput (chaining C (K .mac) A) (headerRead C ins p1 p2 q) (coveredOf field q);
         }) (objects-read ins field o (read .read))
 
-    command-accepted : Inv h (commandTaken c (commandMac C c (headerRead C ins p1 p2 o) (coveredOf field o))) (noted C K t (unwrapCommand Card ins p1 p2 field room) g)
+    pub command-accepted : Inv h (commandTaken c (commandMac C c (headerRead C ins p1 p2 o) (coveredOf field o))) (noted C K t (unwrapCommand Card ins p1 p2 field room) g)
         ⊎ Breaks C K t (unwrapCommand Card ins p1 p2 field room) g
     unfolding noted
     command-accepted =
@@ -372,7 +371,7 @@ module _ (C : Ciphers) (K : Keys) where
     response-entry =
         ap (λ (q : Objects). record { message = a; input = responseMacInput (chaining C (K .rmac) R) (coveredOf field q) }) (status-read sw field o (read .read))
 
-    response-accepted : Inv (responseTaken h (responseMac C h (coveredOf field o))) c (noted C K t (unwrapResponse Host sw field room) a)
+    pub response-accepted : Inv (responseTaken h (responseMac C h (coveredOf field o))) c (noted C K t (unwrapResponse Host sw field room) a)
         ⊎ Breaks C K t (unwrapResponse Host sw field room) a
     unfolding noted
     response-accepted =

@@ -3,3 +3,4 @@ pub mod Logs
 pub mod Channel
 pub mod CallCases
 pub mod Invariant
+pub mod Runs

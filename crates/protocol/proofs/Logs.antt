@@ -14,11 +14,10 @@ use Rattle.protocol.specs.Transcript.{Entry, messages, inputs, lastMac, 
 use Rattle.protocol.specs.Agreement.{chainingValues, Collision}
 
 pub append-cut : {A : Type 0} (s t s' t' : List A) → s ++ t ≡ s' ++ t' → length s ≡ length s' → (s ≡ s') × (t ≡ t')
-append-cut s t s' t' e l =
-    (
-      sym (take-at s t (length s') l) ∙ ap (take (length s')) e ∙ take-at s' t' (length s') refl,
-      sym (drop-at s t (length s') l) ∙ ap (drop (length s')) e ∙ drop-at s' t' (length s') refl,
-    )
+append-cut s t s' t' e l = (
+  sym (take-at s t (length s') l) ∙ ap (take (length s')) e ∙ take-at s' t' (length s') refl,
+  sym (drop-at s t (length s') l) ∙ ap (drop (length s')) e ∙ drop-at s' t' (length s') refl,
+)
 
 map-append : {A B : Type 0} (f : A → B) (s t : List A) → map f (s ++ t) ≡ map f s ++ map f t
 map-append f [] t = refl

@@ -107,4 +107,4 @@ Agreement C =
     → opening Host hostSuite K .answer ≡ Done → opening Card cardSuite K .answer ≡ Done
     → (calls : List Call) → AllBytes calls → (n : ℕ)
     → let st = start (opening Host hostSuite K .session) (opening Card cardSuite K .session) in
-      Agrees C K (run C K st (take n calls) .transcript) ⊎ Excepted C K st (take n calls)
+    Agrees C K (run C K st (take n calls) .transcript) ⊎ Excepted C K st (take n calls)
