@@ -4,3 +4,4 @@ pub mod Channel
 pub mod CallCases
 pub mod Invariant
 pub mod Runs
+pub mod Refused

@@ -6,3 +6,4 @@ pub mod Command
 pub mod Response
 pub mod Transcript
 pub mod Agreement
+pub mod RefusalKeeps
