@@ -24,7 +24,7 @@ use Rattle.field_laws.proofs.ReadBack.{read-command, read-response}
 any : Second → Wanted
 any second = record { «data» = May; limit = 65519; second = second }
 
-right-size : (w : Wanted) (c : Bytes) → WholeBlocks (w .limit) c → 0 < length c → rightSize w 0x87 (length c + 1) ≡ true
+pub right-size : (w : Wanted) (c : Bytes) → WholeBlocks (w .limit) c → 0 < length c → rightSize w 0x87 (length c + 1) ≡ true
 unfolding rightSize
 right-size w c (b, l) h =
     let e : length c + 1 - 1 ≡ length c = omega arith in

@@ -319,6 +319,7 @@ module _ (w : Wanted) (c : Bytes) (there : Bool) (bytes mac : Bytes) (s : Suits 
       record {
         objects = with-both w mac h o there (encryptedData c ++ bytes);
         accepted = e ∙ end (with-both w mac h o there (encryptedData c ++ bytes)) refl l (length field);
+        size = l;
         encrypted = d;
         second = refl;
         covers = take-append-seam (encryptedData c ++ bytes) (macObject mac);

@@ -34,6 +34,7 @@ pub record Suits (w : Wanted) (ciphertext : Bytes) (there : Bool) : Type 0 where
 pub record ReadsBack (w : Wanted) (field ciphertext : Bytes) (there : Bool) (mac covered : Bytes) : Type 0 where
   pub objects : Objects
   pub accepted : readField w field ≡ Read objects
+  pub size : objects .«ciphertext_len» ≡ length ciphertext
   pub encrypted : ciphertextOf field objects ≡ ciphertext
   pub second : objects .second ≡ there
   pub covers : coveredOf field objects ≡ covered

@@ -5,3 +5,4 @@ pub mod CallCases
 pub mod Invariant
 pub mod Runs
 pub mod Refused
+pub mod Delivered

@@ -7,3 +7,4 @@ pub mod Response
 pub mod Transcript
 pub mod Agreement
 pub mod RefusalKeeps
+pub mod HonestDelivery
