@@ -17,7 +17,7 @@ use Rattle.octets.proofs.Xor.{xor-byte}
 use Rattle.sbox.specs.SBox.{sBox}
 use Rattle.sbox.proofs.TableRule.{sBox-lt}
 use Rattle.state.specs.State.{Word, word, addWord, IsState}
-use Rattle.state.specs.Transformations.{subWord}
+use Rattle.sub_bytes.specs.SubBytes.{subWord}
 use Rattle.columns.proofs.XTimes.{xTimes-byte}
 use Rattle.aes.specs.KeySizes.{nk, nr}
 use Rattle.aes.specs.KeyExpansion.{rotWord, xPower, rcon, temp, keyWord, nextWord, words, keyExpansion, schedule}

@@ -7,9 +7,15 @@ use native.Mathlib.Nat.{le-refl}
 use native.Mathlib.Omega.{arith}
 use Rattle.octets.specs.Bytes.{Bytes, IsBytes}
 use Rattle.state.specs.State.{Word, State, stateOf, bytesOf, IsState}
-use Rattle.state.specs.Transformations.{subBytes, shiftRows, mixColumns, addRoundKey}
-use Rattle.state.specs.InvTransformations.{invShiftRows, invSubBytes, invMixColumns}
-use Rattle.state.proofs.Undo.{invSubBytes-subBytes, subBytes-is, invShiftRows-shiftRows, shiftRows-is, invMixColumns-mixColumns, mixColumns-is, addRoundKey-twice, addRoundKey-is, bytesOf-stateOf, stateOf-bytesOf, stateOf-is, bytesOf-bytes}
+use Rattle.sub_bytes.specs.SubBytes.{subBytes, invSubBytes}
+use Rattle.shift_rows.specs.ShiftRows.{shiftRows, invShiftRows}
+use Rattle.mix_columns.specs.MixColumns.{mixColumns, invMixColumns}
+use Rattle.add_round_key.specs.AddRoundKey.{addRoundKey}
+use Rattle.state.proofs.Entries.{bytesOf-stateOf, stateOf-bytesOf, stateOf-is, bytesOf-bytes}
+use Rattle.sub_bytes.proofs.Undo.{invSubBytes-subBytes, subBytes-is}
+use Rattle.shift_rows.proofs.Undo.{invShiftRows-shiftRows, shiftRows-is}
+use Rattle.mix_columns.proofs.Undo.{invMixColumns-mixColumns, mixColumns-is}
+use Rattle.add_round_key.proofs.Undo.{addRoundKey-twice, addRoundKey-is}
 use Rattle.aes.specs.KeySizes.{nr}
 use Rattle.aes.specs.KeyExpansion.{schedule}
 use Rattle.aes.specs.Cipher.{roundKey, rounds, cipher}

@@ -6,8 +6,10 @@ use Prim.Native.Nat.{ℕ, zero, suc, _+_, _-_, _<_}
 use native.Mathlib.Nat.{not-suc-le-zero}
 use native.Mathlib.Numerals.{add-one, sub-one}
 use Rattle.state.specs.State.{Word, State}
-use Rattle.state.specs.Transformations.{subBytes, shiftRows, mixColumns, addRoundKey}
-use Rattle.state.specs.InvTransformations.{invShiftRows, invSubBytes, invMixColumns}
+use Rattle.sub_bytes.specs.SubBytes.{subBytes, invSubBytes}
+use Rattle.shift_rows.specs.ShiftRows.{shiftRows, invShiftRows}
+use Rattle.mix_columns.specs.MixColumns.{mixColumns, invMixColumns}
+use Rattle.add_round_key.specs.AddRoundKey.{addRoundKey}
 use Rattle.aes.specs.Cipher.{roundKey, rounds, cipher}
 use Rattle.aes.specs.InvCipher.{invRounds, invCipher}
 

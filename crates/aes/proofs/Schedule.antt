@@ -16,7 +16,7 @@ use Rattle.octets.proofs.ByteStrings.{by-test}
 use Rattle.octets.proofs.Table.{at}
 use Rattle.field.specs.Field.{xTimes}
 use Rattle.state.specs.State.{Word, addWord}
-use Rattle.state.specs.Transformations.{subWord}
+use Rattle.sub_bytes.specs.SubBytes.{subWord}
 use Rattle.aes.specs.KeyExpansion.{rotWord, xPower, rcon, temp, keyWord, nextWord, words}
 
 -- ---- the round constants

@@ -4,7 +4,10 @@ use Prim.Native.Nat.{ℕ, zero, suc, _+_, _*_, _-_}
 use lib.ListN.{getD}
 use Rattle.octets.specs.Bytes.{tabulate}
 use Rattle.state.specs.State.{Word, State}
-use Rattle.state.specs.Transformations.{subBytes, shiftRows, mixColumns, addRoundKey}
+use Rattle.sub_bytes.specs.SubBytes.{subBytes}
+use Rattle.shift_rows.specs.ShiftRows.{shiftRows}
+use Rattle.mix_columns.specs.MixColumns.{mixColumns}
+use Rattle.add_round_key.specs.AddRoundKey.{addRoundKey}
 
 -- the round key of a round: w[4 * round .. 4 * round + 3]
 abbrev pub roundKey : List Word → ℕ → State

@@ -2,8 +2,10 @@
 use mathlib.Core.List.{List}
 use Prim.Native.Nat.{ℕ, zero, suc, _-_}
 use Rattle.state.specs.State.{Word, State}
-use Rattle.state.specs.Transformations.{addRoundKey}
-use Rattle.state.specs.InvTransformations.{invShiftRows, invSubBytes, invMixColumns}
+use Rattle.sub_bytes.specs.SubBytes.{invSubBytes}
+use Rattle.shift_rows.specs.ShiftRows.{invShiftRows}
+use Rattle.mix_columns.specs.MixColumns.{invMixColumns}
+use Rattle.add_round_key.specs.AddRoundKey.{addRoundKey}
 use Rattle.aes.specs.Cipher.{roundKey}
 
 -- the State s after rounds n down to 1, of those before the last

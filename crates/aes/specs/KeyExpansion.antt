@@ -8,7 +8,7 @@ use Rattle.octets.specs.Bytes.{Bytes, zeros}
 use Rattle.octets.specs.Choice.{if_then_else_}
 use Rattle.field.specs.Field.{xTimes}
 use Rattle.state.specs.State.{Word, word, addWord}
-use Rattle.state.specs.Transformations.{subWord}
+use Rattle.sub_bytes.specs.SubBytes.{subWord}
 use Rattle.aes.specs.KeySizes.{nk, nr}
 use Rattle.aes.specs.declared.KeySize.{KeySize}
 

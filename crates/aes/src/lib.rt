@@ -1,6 +1,12 @@
 // AES with 128- and 256-bit keys (FIPS 197). The key schedule is made once and lent: 60 words, of which a 128-bit key uses 44.
-use state::add_word;
-use state::sub_word;
+use add_round_key::add_round_key;
+use add_round_key::add_word;
+use mix_columns::inv_mix_columns;
+use mix_columns::mix_columns;
+use shift_rows::inv_shift_rows;
+use shift_rows::shift_rows;
+use sub_bytes::sub_bytes;
+use sub_bytes::sub_word;
 ghost use mathlib.Core.Path.{_≡_};
 ghost use Prim.Native.Nat.{_+_, _*_, _-_, _/_, _%_, _<_, _≤_};
 ghost use Rattle.sbox.specs.SBox.{IsTable, sBox, invSBox};
@@ -125,8 +131,8 @@ fn middle_rounds(w: &[[u8; 4]; 60], s: [[u8; 4]; 4], n: usize, table: &[u8; 256]
     let mut round: usize = 0;
     while round < n {
         round += 1;
-        let mixed = state::mix_columns(state::shift_rows(state::sub_bytes(table, x)));
-        x = state::add_round_key(mixed, round_key(w, round));
+        let mixed = mix_columns(shift_rows(sub_bytes(table, x)));
+        x = add_round_key(mixed, round_key(w, round));
     }
     x
 }
@@ -137,12 +143,9 @@ pub fn cipher(size: KeySize, w: &[[u8; 4]; 60], s: [[u8; 4]; 4]) -> [[u8; 4]; 4]
 {
     let table = sbox::sbox();
     let last = size.rounds();
-    let first = state::add_round_key(s, round_key(w, 0));
+    let first = add_round_key(s, round_key(w, 0));
     let x = middle_rounds(w, first, last - 1, &table);
-    state::add_round_key(
-        state::shift_rows(state::sub_bytes(&table, x)),
-        round_key(w, last),
-    )
+    add_round_key(shift_rows(sub_bytes(&table, x)), round_key(w, last))
 }
 
 // FIPS 197, 5.3: the rounds of the inverse cipher before the last.
@@ -159,8 +162,8 @@ fn inv_middle_rounds(
     let mut x = s;
     let mut round = n;
     while 0 < round {
-        let substituted = state::sub_bytes(table, state::inv_shift_rows(x));
-        x = state::inv_mix_columns(state::add_round_key(substituted, round_key(w, round)));
+        let substituted = sub_bytes(table, inv_shift_rows(x));
+        x = inv_mix_columns(add_round_key(substituted, round_key(w, round)));
         round -= 1;
     }
     x
@@ -172,12 +175,9 @@ pub fn inv_cipher(size: KeySize, w: &[[u8; 4]; 60], s: [[u8; 4]; 4]) -> [[u8; 4]
 {
     let table = sbox::inv_sbox();
     let last = size.rounds();
-    let first = state::add_round_key(s, round_key(w, last));
+    let first = add_round_key(s, round_key(w, last));
     let x = inv_middle_rounds(w, first, last - 1, &table);
-    state::add_round_key(
-        state::sub_bytes(&table, state::inv_shift_rows(x)),
-        round_key(w, 0),
-    )
+    add_round_key(sub_bytes(&table, inv_shift_rows(x)), round_key(w, 0))
 }
 
 // CIPH_K of a block, under an expanded key.

@@ -154,7 +154,7 @@ fn cipher(source: &[u8], rounds: usize, w: &[[u8; 4]; 60], input: State)
 }
 
 fn full_round(source: &[u8], round: usize, start: State, key: State) -> State {
-    let mixed = state::mix_columns(substituted_and_shifted(source, round, start));
+    let mixed = mix_columns::mix_columns(substituted_and_shifted(source, round, start));
     step(source, round, b".m_col ", mixed);
     key_added(source, round, b".k_sch ", mixed, key)
 }
@@ -169,9 +169,9 @@ fn last_round(source: &[u8], round: usize, start: State, key: State) {
 fn substituted_and_shifted(source: &[u8], round: usize, start: State) -> State {
     step(source, round, b".start ", start);
     let table = sbox::sbox();
-    let substituted = state::sub_bytes(&table, start);
+    let substituted = sub_bytes::sub_bytes(&table, start);
     step(source, round, b".s_box ", substituted);
-    let shifted = state::shift_rows(substituted);
+    let shifted = shift_rows::shift_rows(substituted);
     step(source, round, b".s_row ", shifted);
     shifted
 }
@@ -195,7 +195,7 @@ fn inv_cipher(source: &[u8], rounds: usize, w: &[[u8; 4]; 60], input: State)
 fn inv_full_round(source: &[u8], round: usize, start: State, key: State) -> State {
     let added = inv_key_added(source, round, start, key);
     step(source, round, b".ik_add ", added);
-    state::inv_mix_columns(added)
+    mix_columns::inv_mix_columns(added)
 }
 
 // The last round has no InvMixColumns.
@@ -206,17 +206,17 @@ fn inv_last_round(source: &[u8], round: usize, start: State, key: State) {
 
 fn inv_key_added(source: &[u8], round: usize, start: State, key: State) -> State {
     step(source, round, b".istart ", start);
-    let shifted = state::inv_shift_rows(start);
+    let shifted = shift_rows::inv_shift_rows(start);
     step(source, round, b".is_row ", shifted);
     let table = sbox::inv_sbox();
-    let substituted = state::sub_bytes(&table, shifted);
+    let substituted = sub_bytes::sub_bytes(&table, shifted);
     step(source, round, b".is_box ", substituted);
     key_added(source, round, b".ik_sch ", substituted, key)
 }
 
 fn key_added(source: &[u8], round: usize, name: &[u8], s: State, key: State) -> State {
     step(source, round, name, key);
-    state::add_round_key(s, key)
+    add_round_key::add_round_key(s, key)
 }
 
 fn step(source: &[u8], round: usize, name: &[u8], s: State) {

@@ -8,7 +8,7 @@ use Prim.Native.Nat.{_-_}
 use native.Mathlib.Omega.{arith}
 use lib.ListN.{getD}
 use Rattle.state.specs.State.{addWord}
-use Rattle.state.specs.Transformations.{subWord}
+use Rattle.sub_bytes.specs.SubBytes.{subWord}
 use Rattle.sbox.specs.SBox.{sBox}
 use Rattle.aes.proofs.Schedule.{quotient-least, quotient-most, temp-first, temp-fourth, temp-other, temp-short, next-key, next-sum}
 use Rattle.aes.proofs.next_word.Statement.{statement}
