@@ -6,7 +6,7 @@ use lib.ListN.{length}
 use Rattle.octets.specs.Bytes.{Bytes}
 use Rattle.state.specs.State.{Word}
 use Rattle.aes.specs.Aes.{ciph}
-use Rattle.aes.specs.declared.KeySize.{KeySize}
+use Rattle.key_expansion.specs.declared.KeySize.{KeySize}
 
 pub length-ciph : (size : KeySize) (w : List Word) (block : Bytes) → length (ciph size w block) ≡ 16
 unfolding ciph

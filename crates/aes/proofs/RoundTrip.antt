@@ -16,14 +16,14 @@ use Rattle.sub_bytes.proofs.Undo.{invSubBytes-subBytes, subBytes-is}
 use Rattle.shift_rows.proofs.Undo.{invShiftRows-shiftRows, shiftRows-is}
 use Rattle.mix_columns.proofs.Undo.{invMixColumns-mixColumns, mixColumns-is}
 use Rattle.add_round_key.proofs.Undo.{addRoundKey-twice, addRoundKey-is}
-use Rattle.aes.specs.KeySizes.{nr}
-use Rattle.aes.specs.KeyExpansion.{schedule}
-use Rattle.aes.specs.Cipher.{roundKey, rounds, cipher}
+use Rattle.key_expansion.specs.KeySizes.{nr}
+use Rattle.key_expansion.specs.KeyExpansion.{schedule, roundKey}
+use Rattle.aes.specs.Cipher.{rounds, cipher}
 use Rattle.aes.specs.InvCipher.{invRounds, invCipher}
 use Rattle.aes.specs.Aes.{ciph, invCiph, aes, invAes}
 use Rattle.aes.specs.BlockCipher.{IsBlock, BlockCipher}
-use Rattle.aes.specs.declared.KeySize.{KeySize}
-use Rattle.aes.proofs.RoundKeys.{roundKey-is}
+use Rattle.key_expansion.specs.declared.KeySize.{KeySize}
+use Rattle.key_expansion.proofs.RoundKeys.{roundKey-is}
 
 -- SubBytes and ShiftRows, undone together
 undone : (x : State) → IsState x → invSubBytes (invShiftRows (shiftRows (subBytes x))) ≡ x

@@ -10,7 +10,8 @@ use Rattle.sub_bytes.specs.SubBytes.{subBytes, invSubBytes}
 use Rattle.shift_rows.specs.ShiftRows.{shiftRows, invShiftRows}
 use Rattle.mix_columns.specs.MixColumns.{mixColumns, invMixColumns}
 use Rattle.add_round_key.specs.AddRoundKey.{addRoundKey}
-use Rattle.aes.specs.Cipher.{roundKey, rounds, cipher}
+use Rattle.key_expansion.specs.KeyExpansion.{roundKey}
+use Rattle.aes.specs.Cipher.{rounds, cipher}
 use Rattle.aes.specs.InvCipher.{invRounds, invCipher}
 
 step : (w : List Word) (s : State) (n : ℕ)

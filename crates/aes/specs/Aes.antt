@@ -2,11 +2,11 @@
 use mathlib.Core.List.{List}
 use Rattle.octets.specs.Bytes.{Bytes}
 use Rattle.state.specs.State.{Word, stateOf, bytesOf}
-use Rattle.aes.specs.KeySizes.{nr}
-use Rattle.aes.specs.KeyExpansion.{schedule}
+use Rattle.key_expansion.specs.KeySizes.{nr}
+use Rattle.key_expansion.specs.KeyExpansion.{schedule}
 use Rattle.aes.specs.Cipher.{cipher}
 use Rattle.aes.specs.InvCipher.{invCipher}
-use Rattle.aes.specs.declared.KeySize.{KeySize}
+use Rattle.key_expansion.specs.declared.KeySize.{KeySize}
 
 -- CIPH_K of SP 800-38A, where w is the expanded key K
 unfoldable pub ciph : KeySize → List Word → Bytes → Bytes

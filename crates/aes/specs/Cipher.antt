@@ -1,17 +1,12 @@
 -- FIPS 197, 5.1: Cipher, with nr rounds and the key schedule w. Assumes nothing.
-use mathlib.Core.List.{List, []}
-use Prim.Native.Nat.{ℕ, zero, suc, _+_, _*_, _-_}
-use lib.ListN.{getD}
-use Rattle.octets.specs.Bytes.{tabulate}
+use mathlib.Core.List.{List}
+use Prim.Native.Nat.{ℕ, zero, suc, _-_}
 use Rattle.state.specs.State.{Word, State}
 use Rattle.sub_bytes.specs.SubBytes.{subBytes}
 use Rattle.shift_rows.specs.ShiftRows.{shiftRows}
 use Rattle.mix_columns.specs.MixColumns.{mixColumns}
 use Rattle.add_round_key.specs.AddRoundKey.{addRoundKey}
-
--- the round key of a round: w[4 * round .. 4 * round + 3]
-abbrev pub roundKey : List Word → ℕ → State
-roundKey w round = tabulate 4 (λ c. getD w (4 * round + c) [])
+use Rattle.key_expansion.specs.KeyExpansion.{roundKey}
 
 -- the State s after rounds 1 to n, of those before the last
 unfoldable pub rounds : List Word → State → ℕ → State

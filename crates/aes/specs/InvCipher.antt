@@ -6,7 +6,7 @@ use Rattle.sub_bytes.specs.SubBytes.{invSubBytes}
 use Rattle.shift_rows.specs.ShiftRows.{invShiftRows}
 use Rattle.mix_columns.specs.MixColumns.{invMixColumns}
 use Rattle.add_round_key.specs.AddRoundKey.{addRoundKey}
-use Rattle.aes.specs.Cipher.{roundKey}
+use Rattle.key_expansion.specs.KeyExpansion.{roundKey}
 
 -- the State s after rounds n down to 1, of those before the last
 unfoldable pub invRounds : List Word → State → ℕ → State

@@ -5,7 +5,7 @@ use mathlib.Core.List.{List, _++_}
 use Prim.Native.Nat.{ℕ}
 use lib.ListN.{length}
 use Rattle.octets.specs.Bytes.{Bytes}
-use Rattle.aes.specs.declared.KeySize.{KeySize}
+use Rattle.key_expansion.specs.declared.KeySize.{KeySize}
 use Rattle.aes.specs.Aes.{ciph}
 use Rattle.aes.proofs.Block.{length-ciph}
 use Rattle.cmac.specs.declared.Cmac.{Cmac}

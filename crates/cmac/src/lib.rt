@@ -1,6 +1,6 @@
 // CMAC with AES (SP 800-38B), over a message that comes in parts.
-use aes::KeySize;
 use aes::encrypt_block;
+use key_expansion::KeySize;
 use octets::block_at;
 use octets::xor_block;
 ghost use mathlib.Core.Path.{_≡_};

@@ -2,7 +2,7 @@
 // example vectors of appendix C, for AES-128 and AES-256. One value a line, under appendix C's
 // names, which serve for appendix B too: `start` is its "Start of Round", `s_box` its "After
 // SubBytes", `s_row` "After ShiftRows", `m_col` "After MixColumns", `k_sch` "Round Key Value".
-use aes::KeySize;
+use key_expansion::KeySize;
 ghost use Prim.Native.Nat.{_≤_, _<_};
 
 type State = [[u8; 4]; 4];
@@ -78,30 +78,30 @@ fn report(table: &[u8], difference: usize) {
 }
 
 fn appendix_a1() {
-    let w = aes::key_expansion(KeySize::Aes128, KEY_A1);
+    let w = key_expansion::key_expansion(KeySize::Aes128, KEY_A1);
     key_schedule(b"FIPS 197 A.1 AES-128", &w, 44);
 }
 
 fn appendix_a3() {
-    let w = aes::key_expansion(KeySize::Aes256, KEY_A3);
+    let w = key_expansion::key_expansion(KeySize::Aes256, KEY_A3);
     key_schedule(b"FIPS 197 A.3 AES-256", &w, 60);
 }
 
 fn appendix_b() {
     let source = b"FIPS 197 B AES-128";
-    let w = aes::key_expansion(KeySize::Aes128, KEY_A1);
+    let w = key_expansion::key_expansion(KeySize::Aes128, KEY_A1);
     cipher(source, 10, &w, state::state_of(INPUT_B));
     let output = aes::encrypt_block(KeySize::Aes128, &w, INPUT_B);
     print::value(source, b" encrypt ", output);
 }
 
 fn appendix_c1() {
-    let w = aes::key_expansion(KeySize::Aes128, KEY_C1);
+    let w = key_expansion::key_expansion(KeySize::Aes128, KEY_C1);
     example_vectors(b"FIPS 197 C.1 AES-128", KeySize::Aes128, 10, &w);
 }
 
 fn appendix_c3() {
-    let w = aes::key_expansion(KeySize::Aes256, KEY_C3);
+    let w = key_expansion::key_expansion(KeySize::Aes256, KEY_C3);
     example_vectors(b"FIPS 197 C.3 AES-256", KeySize::Aes256, 14, &w);
 }
 
@@ -143,14 +143,14 @@ fn cipher(source: &[u8], rounds: usize, w: &[[u8; 4]; 60], input: State)
     requires { ⌜ rounds < 15 ⌝ }
 {
     step(source, 0, b".input ", input);
-    let mut s = key_added(source, 0, b".k_sch ", input, aes::round_key(w, 0));
+    let mut s = key_added(source, 0, b".k_sch ", input, key_expansion::round_key(w, 0));
     let mut round = 1;
     while round < rounds {
-        let next = full_round(source, round, s, aes::round_key(w, round));
+        let next = full_round(source, round, s, key_expansion::round_key(w, round));
         s = next;
         round += 1;
     }
-    last_round(source, rounds, s, aes::round_key(w, rounds));
+    last_round(source, rounds, s, key_expansion::round_key(w, rounds));
 }
 
 fn full_round(source: &[u8], round: usize, start: State, key: State) -> State {
@@ -182,14 +182,25 @@ fn inv_cipher(source: &[u8], rounds: usize, w: &[[u8; 4]; 60], input: State)
     requires { ⌜ rounds < 15 ⌝ }
 {
     step(source, 0, b".iinput ", input);
-    let mut s = key_added(source, 0, b".ik_sch ", input, aes::round_key(w, rounds));
+    let mut s = key_added(
+        source,
+        0,
+        b".ik_sch ",
+        input,
+        key_expansion::round_key(w, rounds),
+    );
     let mut round = 1;
     while round < rounds {
-        let next = inv_full_round(source, round, s, aes::round_key(w, rounds - round));
+        let next = inv_full_round(
+            source,
+            round,
+            s,
+            key_expansion::round_key(w, rounds - round),
+        );
         s = next;
         round += 1;
     }
-    inv_last_round(source, rounds, s, aes::round_key(w, 0));
+    inv_last_round(source, rounds, s, key_expansion::round_key(w, 0));
 }
 
 fn inv_full_round(source: &[u8], round: usize, start: State, key: State) -> State {

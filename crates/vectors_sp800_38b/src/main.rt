@@ -1,6 +1,6 @@
 // SP 800-38B appendix D: the CMAC examples for AES-128 (D.1) and AES-256 (D.3).
-use aes::KeySize;
 use cmac::Cmac;
+use key_expansion::KeySize;
 
 // A 16-byte key stands in the first half.
 const KEY_128: [u8; 32] = *b"\x2b\x7e\x15\x16\x28\xae\xd2\xa6\xab\xf7\x15\x88\x09\xcf\x4f\x3c\
@@ -15,9 +15,9 @@ const MESSAGE: [u8; 64] = *b"\x6b\xc1\xbe\xe2\x2e\x40\x9f\x96\xe9\x3d\x7e\x11\x7
     \xf6\x9f\x24\x45\xdf\x4f\x9b\x17\xad\x2b\x41\x7b\xe6\x6c\x37\x10";
 
 fn main() {
-    let w = aes::key_expansion(KeySize::Aes128, KEY_128);
+    let w = key_expansion::key_expansion(KeySize::Aes128, KEY_128);
     print::text(b"SP 800-38B D.1 AES-128 K ");
-    print::state(aes::round_key(&w, 0));
+    print::state(key_expansion::round_key(&w, 0));
     print::newline();
     subkeys(b"SP 800-38B D.1 AES-128", KeySize::Aes128, &w);
     let message = MESSAGE;
@@ -46,10 +46,10 @@ fn main() {
         &message,
     );
 
-    let w = aes::key_expansion(KeySize::Aes256, KEY_256);
+    let w = key_expansion::key_expansion(KeySize::Aes256, KEY_256);
     print::text(b"SP 800-38B D.3 AES-256 K ");
-    print::state(aes::round_key(&w, 0));
-    print::state(aes::round_key(&w, 1));
+    print::state(key_expansion::round_key(&w, 0));
+    print::state(key_expansion::round_key(&w, 1));
     print::newline();
     subkeys(b"SP 800-38B D.3 AES-256", KeySize::Aes256, &w);
     let message = MESSAGE;

@@ -3,7 +3,7 @@
 use borrow.Author.Needs.{needs}
 use native.Mathlib.Omega.{arith}
 use Rattle.sbox.specs.SBox.{sBox}
-use Rattle.aes.proofs.Sizes.{bounds}
+use Rattle.key_expansion.proofs.Sizes.{bounds}
 use Rattle.aes.proofs.Rounds.{cipher-whole}
 use Rattle.aes.proofs.cipher.Statement.{statement}
 use Rattle.aes.proofs.cipher.Tie as tie

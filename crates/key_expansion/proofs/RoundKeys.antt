@@ -19,11 +19,10 @@ use Rattle.sbox.proofs.TableRule.{sBox-lt}
 use Rattle.state.specs.State.{Word, word, addWord, IsState}
 use Rattle.sub_bytes.specs.SubBytes.{subWord}
 use Rattle.columns.proofs.XTimes.{xTimes-byte}
-use Rattle.aes.specs.KeySizes.{nk, nr}
-use Rattle.aes.specs.KeyExpansion.{rotWord, xPower, rcon, temp, keyWord, nextWord, words, keyExpansion, schedule}
-use Rattle.aes.specs.Cipher.{roundKey}
-use Rattle.aes.specs.declared.KeySize.{KeySize}
-use Rattle.aes.proofs.Schedule.{length-words}
+use Rattle.key_expansion.specs.KeySizes.{nk, nr}
+use Rattle.key_expansion.specs.KeyExpansion.{rotWord, xPower, rcon, temp, keyWord, nextWord, words, keyExpansion, schedule, roundKey}
+use Rattle.key_expansion.specs.declared.KeySize.{KeySize}
+use Rattle.key_expansion.proofs.Schedule.{length-words}
 
 record IsWord (a : Word) : Type 0 where
   size : length a ≡ 4

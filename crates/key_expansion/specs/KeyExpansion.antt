@@ -4,13 +4,13 @@ use mathlib.Core.List.{List, [], _∷_, _++_}
 use Prim.Native.Nat.{ℕ, zero, suc, _+_, _*_, _-_, _/_, _%_}
 use lib.Dec.{eqb, ltb}
 use lib.ListN.{getD, replicate}
-use Rattle.octets.specs.Bytes.{Bytes, zeros}
+use Rattle.octets.specs.Bytes.{Bytes, zeros, tabulate}
 use Rattle.octets.specs.Choice.{if_then_else_}
 use Rattle.field.specs.Field.{xTimes}
-use Rattle.state.specs.State.{Word, word, addWord}
+use Rattle.state.specs.State.{Word, State, word, addWord}
 use Rattle.sub_bytes.specs.SubBytes.{subWord}
-use Rattle.aes.specs.KeySizes.{nk, nr}
-use Rattle.aes.specs.declared.KeySize.{KeySize}
+use Rattle.key_expansion.specs.KeySizes.{nk, nr}
+use Rattle.key_expansion.specs.declared.KeySize.{KeySize}
 
 -- RotWord([a0, a1, a2, a3]) = [a1, a2, a3, a0]
 abbrev pub rotWord : Word → Word
@@ -52,3 +52,7 @@ keyExpansion size key = words (nk size) key (4 * nr size + 4)
 -- the same in an array of 60 words, those that are not used being zero
 unfoldable pub schedule : KeySize → Bytes → List Word
 schedule size key = keyExpansion size key ++ replicate (60 - (4 * nr size + 4)) (zeros 4)
+
+-- the round key of a round: w[4 * round .. 4 * round + 3]
+abbrev pub roundKey : List Word → ℕ → State
+roundKey w round = tabulate 4 (λ c. getD w (4 * round + c) [])

@@ -5,12 +5,12 @@ use mathlib.Core.Path.{_≡_, ap₂, _∙_}
 use Prim.Native.Nat.{ℕ, _≤_, _-_, _+_, _*_}
 use native.Mathlib.Omega.{arith}
 use lib.ListN.{length, length-set}
-use Rattle.aes.specs.KeySizes.{nk, nr}
-use Rattle.aes.specs.KeyExpansion.{keyExpansion, schedule}
-use Rattle.aes.proofs.Sizes.{bounds}
-use Rattle.aes.proofs.Schedule.{filled, filled-none, filled-more}
-use Rattle.aes.proofs.key_expansion.Statement.{statement}
-use Rattle.aes.proofs.key_expansion.Tie as tie
+use Rattle.key_expansion.specs.KeySizes.{nk, nr}
+use Rattle.key_expansion.specs.KeyExpansion.{keyExpansion, schedule}
+use Rattle.key_expansion.proofs.Sizes.{bounds}
+use Rattle.key_expansion.proofs.Schedule.{filled, filled-none, filled-more}
+use Rattle.key_expansion.proofs.key_expansion.Statement.{statement}
+use Rattle.key_expansion.proofs.key_expansion.Tie as tie
 
 abbrev Inv-loop : tie.InvT-loop
 Inv-loop key table n end w₀ i₀ w i = (i ≤ end) × (length w ≡ 60) × (w ≡ filled n key i)

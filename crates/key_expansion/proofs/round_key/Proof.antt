@@ -2,8 +2,8 @@
 -- Assumes nothing.
 use borrow.Author.Needs.{needs}
 use native.Mathlib.Nat.{add-zero}
-use Rattle.aes.proofs.round_key.Statement.{statement}
-use Rattle.aes.proofs.round_key.Tie as tie
+use Rattle.key_expansion.proofs.round_key.Statement.{statement}
+use Rattle.key_expansion.proofs.round_key.Tie as tie
 
 returns : tie.Need-returns
 returns c = rw add-zero

@@ -3,9 +3,9 @@
 use mathlib.Core.Path.{_≡_, refl}
 use Prim.Native.Nat.{_+_, _≤_}
 use lib.Dec.{lit≤}
-use Rattle.aes.specs.KeySizes.{nk, nr}
-use Rattle.aes.specs.declared.KeySize.{KeySize}
-use Rattle.aes.specs.declared.KeySize.the-variants.{Aes128, Aes256}
+use Rattle.key_expansion.specs.KeySizes.{nk, nr}
+use Rattle.key_expansion.specs.declared.KeySize.{KeySize}
+use Rattle.key_expansion.specs.declared.KeySize.the-variants.{Aes128, Aes256}
 
 pub record Bounds (size : KeySize) : Type 0 where
   pub least : 4 ≤ nk size
