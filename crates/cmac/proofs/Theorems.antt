@@ -9,7 +9,8 @@ use Rattle.key_expansion.specs.declared.KeySize.{KeySize}
 use Rattle.aes.specs.Aes.{ciph}
 use Rattle.aes.proofs.Block.{length-ciph}
 use Rattle.cmac.specs.declared.Cmac.{Cmac}
-use Rattle.cmac.specs.Cmac.{Cipher, cmac}
+use Rattle.subkeys.specs.Subkeys.{Cipher}
+use Rattle.cmac.specs.Cmac.{cmac}
 use Rattle.cmac.specs.Running.{start, absorb, finish}
 use Rattle.cmac.proofs.BlockByBlock as blocks
 use Rattle.cmac.proofs.WholeMessage as whole

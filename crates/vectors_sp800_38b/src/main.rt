@@ -82,8 +82,8 @@ fn main() {
 // CIPH_K(0), of which 6.1 makes the subkeys, and these.
 fn subkeys(source: &[u8], size: KeySize, w: &[[u8; 4]; 60]) {
     print::value(source, b" CIPH_K(0) ", aes::encrypt_block(size, w, [0; 16]));
-    print::value(source, b" K1 ", cmac::subkey1(size, w));
-    print::value(source, b" K2 ", cmac::subkey2(size, w));
+    print::value(source, b" K1 ", subkeys::subkey1(size, w));
+    print::value(source, b" K2 ", subkeys::subkey2(size, w));
 }
 
 // The MAC of a message, absorbed whole, and again as its first 7 bytes and the rest.
