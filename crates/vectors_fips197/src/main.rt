@@ -40,7 +40,7 @@ fn main() {
 fn sbox_difference(table: &[u8; 256]) -> usize {
     let mut x = 0;
     while x < 256 {
-        if table[x] != sbox::sbox_rule(x as u8) {
+        if table[x] != sbox_rule::sbox_rule(x as u8) {
             return x;
         }
         x += 1;
@@ -52,7 +52,7 @@ fn sbox_difference(table: &[u8; 256]) -> usize {
 fn inv_sbox_difference(table: &[u8; 256]) -> usize {
     let mut x = 0;
     while x < 256 {
-        if table[index(sbox::sbox_rule(x as u8))] != x as u8 {
+        if table[index(sbox_rule::sbox_rule(x as u8))] != x as u8 {
             return x;
         }
         x += 1;
