@@ -9,12 +9,12 @@ use Rattle.octets.specs.Bytes.{Bytes, IsBytes}
 use Rattle.state.specs.State.{Word, State, stateOf, bytesOf, IsState}
 use Rattle.sub_bytes.specs.SubBytes.{subBytes, invSubBytes}
 use Rattle.shift_rows.specs.ShiftRows.{shiftRows, invShiftRows}
-use Rattle.mix_columns.specs.MixColumns.{mixColumns, invMixColumns}
+use Rattle.columns.specs.MixColumns.{mixColumns, invMixColumns}
 use Rattle.add_round_key.specs.AddRoundKey.{addRoundKey}
 use Rattle.state.proofs.Entries.{bytesOf-stateOf, stateOf-bytesOf, stateOf-is, bytesOf-bytes}
 use Rattle.sub_bytes.proofs.Undo.{invSubBytes-subBytes, subBytes-is}
 use Rattle.shift_rows.proofs.Undo.{invShiftRows-shiftRows, shiftRows-is}
-use Rattle.mix_columns.proofs.Undo.{invMixColumns-mixColumns, mixColumns-is}
+use Rattle.columns.proofs.Undo.{invMixColumns-mixColumns, mixColumns-is}
 use Rattle.add_round_key.proofs.Undo.{addRoundKey-twice, addRoundKey-is}
 use Rattle.key_expansion.specs.KeySizes.{nr}
 use Rattle.key_expansion.specs.KeyExpansion.{schedule, roundKey}

@@ -8,7 +8,7 @@ use native.Mathlib.Numerals.{add-one, sub-one}
 use Rattle.state.specs.State.{Word, State}
 use Rattle.sub_bytes.specs.SubBytes.{subBytes, invSubBytes}
 use Rattle.shift_rows.specs.ShiftRows.{shiftRows, invShiftRows}
-use Rattle.mix_columns.specs.MixColumns.{mixColumns, invMixColumns}
+use Rattle.columns.specs.MixColumns.{mixColumns, invMixColumns}
 use Rattle.add_round_key.specs.AddRoundKey.{addRoundKey}
 use Rattle.key_expansion.specs.KeyExpansion.{roundKey}
 use Rattle.aes.specs.Cipher.{rounds, cipher}

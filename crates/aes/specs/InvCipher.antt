@@ -4,7 +4,7 @@ use Prim.Native.Nat.{ℕ, zero, suc, _-_}
 use Rattle.state.specs.State.{Word, State}
 use Rattle.sub_bytes.specs.SubBytes.{invSubBytes}
 use Rattle.shift_rows.specs.ShiftRows.{invShiftRows}
-use Rattle.mix_columns.specs.MixColumns.{invMixColumns}
+use Rattle.columns.specs.MixColumns.{invMixColumns}
 use Rattle.add_round_key.specs.AddRoundKey.{addRoundKey}
 use Rattle.key_expansion.specs.KeyExpansion.{roundKey}
 

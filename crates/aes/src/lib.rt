@@ -1,8 +1,8 @@
 // AES with 128- and 256-bit keys (FIPS 197): Cipher and InvCipher, under an expanded key.
 use add_round_key::add_round_key;
+use inv_mix_columns::inv_mix_columns;
 use key_expansion::KeySize;
 use key_expansion::round_key;
-use mix_columns::inv_mix_columns;
 use mix_columns::mix_columns;
 use shift_rows::inv_shift_rows;
 use shift_rows::shift_rows;

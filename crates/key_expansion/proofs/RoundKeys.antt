@@ -18,7 +18,7 @@ use Rattle.sbox.specs.SBox.{sBox}
 use Rattle.sbox.proofs.TableRule.{sBox-lt}
 use Rattle.state.specs.State.{Word, word, addWord, IsState}
 use Rattle.sub_bytes.specs.SubBytes.{subWord}
-use Rattle.columns.proofs.XTimes.{xTimes-byte}
+use Rattle.field.proofs.XTimes.{xTimes-byte}
 use Rattle.key_expansion.specs.KeySizes.{nk, nr}
 use Rattle.key_expansion.specs.KeyExpansion.{rotWord, xPower, rcon, temp, keyWord, nextWord, words, keyExpansion, schedule, roundKey}
 use Rattle.key_expansion.specs.declared.KeySize.{KeySize}

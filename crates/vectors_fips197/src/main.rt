@@ -206,7 +206,7 @@ fn inv_cipher(source: &[u8], rounds: usize, w: &[[u8; 4]; 60], input: State)
 fn inv_full_round(source: &[u8], round: usize, start: State, key: State) -> State {
     let added = inv_key_added(source, round, start, key);
     step(source, round, b".ik_add ", added);
-    mix_columns::inv_mix_columns(added)
+    inv_mix_columns::inv_mix_columns(added)
 }
 
 // The last round has no InvMixColumns.

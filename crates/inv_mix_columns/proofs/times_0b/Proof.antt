@@ -1,9 +1,9 @@
 -- `times_0b` meets its contract: the product is a sum of multiples by powers of x.
 -- Assumes nothing.
 use borrow.Author.Needs.{needs}
 use Rattle.columns.proofs.MixColumn.{times-0b}
-use Rattle.columns.proofs.times_0b.Statement.{statement}
-use Rattle.columns.proofs.times_0b.Tie as tie
+use Rattle.inv_mix_columns.proofs.times_0b.Statement.{statement}
+use Rattle.inv_mix_columns.proofs.times_0b.Tie as tie
 
 returns : tie.Need-returns
 returns c = cc (times-0b (c .before .before .before .args .a))

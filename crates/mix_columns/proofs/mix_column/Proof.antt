@@ -5,10 +5,10 @@ use mathlib.Core.Path.{_≡_, refl}
 use Prim.Native.Nat.{ℕ}
 use lib.ListN.{getD}
 use Rattle.octets.proofs.ListsOfFour.{four}
 use Rattle.columns.proofs.MixColumn.{sum}
 use Rattle.columns.specs.MixColumn.{mixColumn}
-use Rattle.columns.proofs.mix_column.Statement.{statement}
-use Rattle.columns.proofs.mix_column.Tie as tie
+use Rattle.mix_columns.proofs.mix_column.Statement.{statement}
+use Rattle.mix_columns.proofs.mix_column.Tie as tie
 
 returns : tie.Need-returns
 unfolding mixColumn

@@ -2,9 +2,9 @@
 -- Assumes nothing.
 use borrow.Author.Needs.{needs}
 use mathlib.Core.Path.{_∙_}
 use Rattle.columns.proofs.MixColumn.{times-02}
-use Rattle.columns.proofs.times_02.Statement.{statement}
-use Rattle.columns.proofs.times_02.Tie as tie
+use Rattle.mix_columns.proofs.times_02.Statement.{statement}
+use Rattle.mix_columns.proofs.times_02.Tie as tie
 
 returns : tie.Need-returns
 returns c = c .x-times .ensures ∙ times-02 (c .before .args .a)

@@ -1,9 +1,9 @@
 -- `times_09` meets its contract: the product is a sum of multiples by powers of x.
 -- Assumes nothing.
 use borrow.Author.Needs.{needs}
 use Rattle.columns.proofs.MixColumn.{times-09}
-use Rattle.columns.proofs.times_09.Statement.{statement}
-use Rattle.columns.proofs.times_09.Tie as tie
+use Rattle.inv_mix_columns.proofs.times_09.Statement.{statement}
+use Rattle.inv_mix_columns.proofs.times_09.Tie as tie
 
 returns : tie.Need-returns
 returns c = cc (times-09 (c .before .before .before .args .a))

@@ -2,10 +2,10 @@
 -- Assumes nothing.
 use borrow.Author.Needs.{needs}
 use Rattle.octets.proofs.ListsOfFour.{four}
 use Rattle.columns.proofs.MixColumn.{sum}
 use Rattle.columns.specs.MixColumn.{invMixColumn}
-use Rattle.columns.proofs.inv_mix_column.Statement.{statement}
-use Rattle.columns.proofs.inv_mix_column.Tie as tie
+use Rattle.inv_mix_columns.proofs.inv_mix_column.Statement.{statement}
+use Rattle.inv_mix_columns.proofs.inv_mix_column.Tie as tie
 
 returns : tie.Need-returns
 unfolding invMixColumn
