@@ -1,8 +1,8 @@
 // AES with 128- and 256-bit keys (FIPS 197): Cipher and InvCipher, under an expanded key.
 use add_round_key::add_round_key;
 use inv_mix_columns::inv_mix_columns;
-use key_expansion::KeySize;
-use key_expansion::round_key;
+use key_schedule::KeySize;
+use key_schedule::round_key;
 use mix_columns::mix_columns;
 use shift_rows::inv_shift_rows;
 use shift_rows::shift_rows;
@@ -10,7 +10,7 @@ use sub_bytes::sub_bytes;
 ghost use mathlib.Core.Path.{_≡_};
 ghost use Prim.Native.Nat.{_<_};
 ghost use Rattle.sbox.specs.SBox.{IsTable, sBox, invSBox};
-ghost use Rattle.key_expansion.specs.KeySizes.{nr};
+ghost use Rattle.key_schedule.specs.KeySizes.{nr};
 ghost use Rattle.aes.specs.Cipher.{rounds, cipher};
 ghost use Rattle.aes.specs.InvCipher.{invRounds, invCipher};
 ghost use Rattle.aes.specs.Aes.{ciph, invCiph};

@@ -1,6 +1,6 @@
 // CMAC with AES (SP 800-38B), over a message that comes in parts.
 use aes::encrypt_block;
-use key_expansion::KeySize;
+use key_schedule::KeySize;
 use octets::block_at;
 use octets::xor_block;
 use subkeys::subkey1;

@@ -1,7 +1,7 @@
 // AES, CBC and CMAC for C (c/primitives.h): for the benchmark and the comparison with another library.
 use cbc::Outcome;
 use cmac::Cmac;
-use key_expansion::KeySize;
+use key_schedule::KeySize;
 use octets::block_at;
 use octets::put_bytes;
 ghost use mathlib.Core.Path.{_≡_};

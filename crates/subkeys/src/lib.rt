@@ -1,6 +1,6 @@
 // The subkeys of CMAC with AES (SP 800-38B, 6.1).
 use aes::encrypt_block;
-use key_expansion::KeySize;
+use key_schedule::KeySize;
 use octets::xor_block;
 ghost use mathlib.Core.Path.{_≡_};
 ghost use Rattle.aes.specs.Aes.{ciph};

@@ -2,7 +2,7 @@
 // example vectors of appendix C, for AES-128 and AES-256. One value a line, under appendix C's
 // names, which serve for appendix B too: `start` is its "Start of Round", `s_box` its "After
 // SubBytes", `s_row` "After ShiftRows", `m_col` "After MixColumns", `k_sch` "Round Key Value".
-use key_expansion::KeySize;
+use key_schedule::KeySize;
 ghost use Prim.Native.Nat.{_≤_, _<_};
 
 type State = [[u8; 4]; 4];
@@ -143,14 +143,14 @@ fn cipher(source: &[u8], rounds: usize, w: &[[u8; 4]; 60], input: State)
     requires { ⌜ rounds < 15 ⌝ }
 {
     step(source, 0, b".input ", input);
-    let mut s = key_added(source, 0, b".k_sch ", input, key_expansion::round_key(w, 0));
+    let mut s = key_added(source, 0, b".k_sch ", input, key_schedule::round_key(w, 0));
     let mut round = 1;
     while round < rounds {
-        let next = full_round(source, round, s, key_expansion::round_key(w, round));
+        let next = full_round(source, round, s, key_schedule::round_key(w, round));
         s = next;
         round += 1;
     }
-    last_round(source, rounds, s, key_expansion::round_key(w, rounds));
+    last_round(source, rounds, s, key_schedule::round_key(w, rounds));
 }
 
 fn full_round(source: &[u8], round: usize, start: State, key: State) -> State {
@@ -187,20 +187,15 @@ fn inv_cipher(source: &[u8], rounds: usize, w: &[[u8; 4]; 60], input: State)
         0,
         b".ik_sch ",
         input,
-        key_expansion::round_key(w, rounds),
+        key_schedule::round_key(w, rounds),
     );
     let mut round = 1;
     while round < rounds {
-        let next = inv_full_round(
-            source,
-            round,
-            s,
-            key_expansion::round_key(w, rounds - round),
-        );
+        let next = inv_full_round(source, round, s, key_schedule::round_key(w, rounds - round));
         s = next;
         round += 1;
     }
-    inv_last_round(source, rounds, s, key_expansion::round_key(w, 0));
+    inv_last_round(source, rounds, s, key_schedule::round_key(w, 0));
 }
 
 fn inv_full_round(source: &[u8], round: usize, start: State, key: State) -> State {

@@ -1,5 +1,5 @@
 // SP 800-38A appendix F.2: the CBC examples for AES-128 and AES-256, block by block.
-use key_expansion::KeySize;
+use key_schedule::KeySize;
 ghost use Prim.Native.Nat.{_≤_};
 
 // A 16-byte key stands in the first half.
