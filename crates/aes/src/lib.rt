@@ -1,119 +1,19 @@
-// AES with 128- and 256-bit keys (FIPS 197). The key schedule is made once and lent: 60 words, of which a 128-bit key uses 44.
-use state::add_word;
-use state::sub_word;
+// AES with 128- and 256-bit keys (FIPS 197): Cipher and InvCipher, under an expanded key.
+use add_round_key::add_round_key;
+use inv_mix_columns::inv_mix_columns;
+use key_schedule::KeySize;
+use key_schedule::round_key;
+use mix_columns::mix_columns;
+use shift_rows::inv_shift_rows;
+use shift_rows::shift_rows;
+use sub_bytes::sub_bytes;
 ghost use mathlib.Core.Path.{_≡_};
-ghost use Prim.Native.Nat.{_+_, _*_, _-_, _/_, _%_, _<_, _≤_};
+ghost use Prim.Native.Nat.{_<_};
 ghost use Rattle.sbox.specs.SBox.{IsTable, sBox, invSBox};
-ghost use Rattle.aes.specs.KeySizes.{nk, nr};
-ghost use Rattle.aes.specs.KeyExpansion.{rotWord, rcon, keyWord, nextWord, schedule};
-ghost use Rattle.aes.specs.Cipher.{roundKey, rounds, cipher};
+ghost use Rattle.key_schedule.specs.KeySizes.{nr};
+ghost use Rattle.aes.specs.Cipher.{rounds, cipher};
 ghost use Rattle.aes.specs.InvCipher.{invRounds, invCipher};
 ghost use Rattle.aes.specs.Aes.{ciph, invCiph};
-
-// AES-128 and AES-256.
-pub enum KeySize {
-    Aes128,
-    Aes256,
-}
-
-impl KeySize {
-    // Nk.
-    pub fn words(self) -> usize
-        ensures { λ result. ⌜ result ≡ nk self ⌝ }
-    {
-        match self {
-            KeySize::Aes128 => 4,
-            KeySize::Aes256 => 8,
-        }
-    }
-
-    // Nr.
-    pub fn rounds(self) -> usize
-        ensures { λ result. ⌜ result ≡ nr self ⌝ }
-    {
-        match self {
-            KeySize::Aes128 => 10,
-            KeySize::Aes256 => 14,
-        }
-    }
-}
-
-// FIPS 197, Table 5: the first byte of each round constant, from Rcon[1] on.
-const RCON: [u8; 10] = [0x01, 0x02, 0x04, 0x08, 0x10, 0x20, 0x40, 0x80, 0x1b, 0x36];
-
-// FIPS 197, 5.2: Rcon[j].
-fn round_constant(j: usize) -> [u8; 4]
-    requires { ⌜ (1 ≤ j) × (j ≤ 10) ⌝ }
-    ensures { λ result. ⌜ result ≡ rcon j ⌝ }
-{
-    [RCON[j - 1], 0, 0, 0]
-}
-
-// FIPS 197, 5.2: RotWord.
-fn rot_word(a: [u8; 4]) -> [u8; 4]
-    ensures { λ result. ⌜ result ≡ rotWord a ⌝ }
-{
-    [a[1], a[2], a[3], a[0]]
-}
-
-// Word i of the key.
-fn key_word(key: &[u8; 32], i: usize) -> [u8; 4]
-    requires { ⌜ i < 8 ⌝ }
-    ensures { λ result. ⌜ result ≡ keyWord (now (key .entry)) i ⌝ }
-{
-    let j = 4 * i;
-    [key[j], key[j + 1], key[j + 2], key[j + 3]]
-}
-
-// The four words of a round key.
-pub fn round_key(w: &[[u8; 4]; 60], round: usize) -> [[u8; 4]; 4]
-    requires { ⌜ round < 15 ⌝ }
-    ensures { λ k. ⌜ k ≡ roundKey (now (w .entry)) round ⌝ }
-{
-    let i = 4 * round;
-    [w[i], w[i + 1], w[i + 2], w[i + 3]]
-}
-
-// FIPS 197, 5.2: w[i]. Each case makes its own sum: key set-up and one block ran a third faster so.
-fn next_word(table: &[u8; 256], n: usize, key: &[u8; 32], w: &[[u8; 4]; 60], i: usize) -> [u8; 4]
-    requires { ⌜ IsTable sBox (now table) ⌝ }
-    requires { ⌜ (4 ≤ n) × (n ≤ 8) × (i < 4 * n + 28) ⌝ }
-    ensures { λ result. ⌜ result ≡ nextWord n (now (key .entry)) (now (w .entry)) i ⌝ }
-{
-    if i < n {
-        return key_word(key, i);
-    }
-    let prior = w[i - n];
-    let last = w[i - 1];
-    let m = i % n;
-    if m == 0 {
-        let j = i / n;
-        let temp = add_word(sub_word(table, rot_word(last)), round_constant(j));
-        return add_word(prior, temp);
-    }
-    if 6 < n {
-        if m == 4 {
-            return add_word(prior, sub_word(table, last));
-        }
-    }
-    add_word(prior, last)
-}
-
-// FIPS 197, 5.2: KeyExpansion. The words that the rounds do not use stay zero.
-pub fn key_expansion(size: KeySize, key: [u8; 32]) -> [[u8; 4]; 60]
-    ensures { λ w. ⌜ w ≡ schedule size key ⌝ }
-{
-    let table = sbox::sbox();
-    let n = size.words();
-    let end = 4 * size.rounds() + 4;
-    let mut w = [[0u8; 4]; 60];
-    let mut i: usize = 0;
-    while i < end {
-        w[i] = next_word(&table, n, &key, &w, i);
-        i += 1;
-    }
-    w
-}
 
 // FIPS 197, 5.1: the rounds before the last.
 fn middle_rounds(w: &[[u8; 4]; 60], s: [[u8; 4]; 4], n: usize, table: &[u8; 256]) -> [[u8; 4]; 4]
@@ -125,24 +25,21 @@ fn middle_rounds(w: &[[u8; 4]; 60], s: [[u8; 4]; 4], n: usize, table: &[u8; 256]
     let mut round: usize = 0;
     while round < n {
         round += 1;
-        let mixed = state::mix_columns(state::shift_rows(state::sub_bytes(table, x)));
-        x = state::add_round_key(mixed, round_key(w, round));
+        let mixed = mix_columns(shift_rows(sub_bytes(table, x)));
+        x = add_round_key(mixed, round_key(w, round));
     }
     x
 }
 
 // FIPS 197, 5.1: Cipher.
-pub fn cipher(size: KeySize, w: &[[u8; 4]; 60], s: [[u8; 4]; 4]) -> [[u8; 4]; 4]
+fn cipher(size: KeySize, w: &[[u8; 4]; 60], s: [[u8; 4]; 4]) -> [[u8; 4]; 4]
     ensures { λ result. ⌜ result ≡ cipher (nr size) (now (w .entry)) s ⌝ }
 {
     let table = sbox::sbox();
     let last = size.rounds();
-    let first = state::add_round_key(s, round_key(w, 0));
+    let first = add_round_key(s, round_key(w, 0));
     let x = middle_rounds(w, first, last - 1, &table);
-    state::add_round_key(
-        state::shift_rows(state::sub_bytes(&table, x)),
-        round_key(w, last),
-    )
+    add_round_key(shift_rows(sub_bytes(&table, x)), round_key(w, last))
 }
 
 // FIPS 197, 5.3: the rounds of the inverse cipher before the last.
@@ -159,25 +56,22 @@ fn inv_middle_rounds(
     let mut x = s;
     let mut round = n;
     while 0 < round {
-        let substituted = state::sub_bytes(table, state::inv_shift_rows(x));
-        x = state::inv_mix_columns(state::add_round_key(substituted, round_key(w, round)));
+        let substituted = sub_bytes(table, inv_shift_rows(x));
+        x = inv_mix_columns(add_round_key(substituted, round_key(w, round)));
         round -= 1;
     }
     x
 }
 
 // FIPS 197, 5.3: InvCipher.
-pub fn inv_cipher(size: KeySize, w: &[[u8; 4]; 60], s: [[u8; 4]; 4]) -> [[u8; 4]; 4]
+fn inv_cipher(size: KeySize, w: &[[u8; 4]; 60], s: [[u8; 4]; 4]) -> [[u8; 4]; 4]
     ensures { λ result. ⌜ result ≡ invCipher (nr size) (now (w .entry)) s ⌝ }
 {
     let table = sbox::inv_sbox();
     let last = size.rounds();
-    let first = state::add_round_key(s, round_key(w, last));
+    let first = add_round_key(s, round_key(w, last));
     let x = inv_middle_rounds(w, first, last - 1, &table);
-    state::add_round_key(
-        state::sub_bytes(&table, state::inv_shift_rows(x)),
-        round_key(w, 0),
-    )
+    add_round_key(sub_bytes(&table, inv_shift_rows(x)), round_key(w, 0))
 }
 
 // CIPH_K of a block, under an expanded key.

@@ -1,7 +1,7 @@
 // The CBC mode with AES (SP 800-38A, 6.2), in place.
-use aes::KeySize;
 use aes::decrypt_block;
 use aes::encrypt_block;
+use key_schedule::KeySize;
 use octets::block_at;
 use octets::put_bytes;
 use octets::xor_block;

@@ -10,8 +10,8 @@ use Rattle.padding.specs.Padding.{pad, unpad}
 use Rattle.padding.specs.declared.Unpadded.{Unpadded}
 use Rattle.padding.specs.declared.Unpadded.the-variants.{Data, BadPadding}
 use Rattle.aes.specs.Aes.{aes, invAes}
-use Rattle.aes.specs.declared.KeySize.{KeySize}
-use Rattle.aes.specs.declared.KeySize.the-variants.{Aes128, Aes256}
+use Rattle.key_schedule.specs.declared.KeySize.{KeySize}
+use Rattle.key_schedule.specs.declared.KeySize.the-variants.{Aes128, Aes256}
 use Rattle.cbc.specs.Cbc.{cbcEncrypt, cbcDecrypt}
 use Rattle.cmac.specs.Cmac.{cmac}
 use Rattle.ciphers.specs.Ciphers.{Ciphers}

@@ -1,3 +1,3 @@
-pub mod XTimes
 pub mod Sums
 pub mod MixColumn
+pub mod Undo

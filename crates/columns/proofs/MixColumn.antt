@@ -13,7 +13,7 @@ use Rattle.octets.proofs.Xor.{xor-byte}
 use Rattle.field.specs.Field.{xTimes, product, _•_}
 use Rattle.columns.specs.MixColumn.{Column, mixColumn}
 use Rattle.columns.specs.MixColumn.{invMixColumn}
-use Rattle.columns.proofs.XTimes.{times-byte}
+use Rattle.field.proofs.XTimes.{times-byte}
 use Rattle.columns.proofs.Sums.{Sum, byte, none, plus, byX, equal}
 
 -- ---- products

@@ -14,7 +14,7 @@ use Rattle.octets.specs.Choice.{if_then_else_}
 use Rattle.octets.proofs.Table.{both-left, both-right}
 use Rattle.octets.proofs.Xor.{swap, xor-eq}
 use Rattle.field.specs.Field.{xTimes}
-use Rattle.columns.proofs.XTimes.{xTimes-sum, xTimes-zero}
+use Rattle.field.proofs.XTimes.{xTimes-sum, xTimes-zero}
 
 -- ---- polynomials over GF(2), lowest coefficient first
 

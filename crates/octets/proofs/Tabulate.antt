@@ -42,13 +42,11 @@ tabulate-take d (suc n) (x ∷ xs) h = ap (λ l. x ∷ l) (tabulate-take d n xs 
 pub tabulate-getD : {A : Type 0} (d : A) (n : ℕ) (xs : List A) → length xs ≡ n → tabulate n (λ i. getD xs i d) ≡ xs
 tabulate-getD d n xs h = tabulate-take d n xs (omega arith) ∙ take-all n xs (omega arith)
 
--- the n + 1 elements from index at on, the first written without a sum
-pub tabulate-part : {A : Type 0} (d : A) (n at : ℕ) (xs : List A) → at + suc n ≤ length xs
-    → getD xs at d ∷ tabulate n (λ i. getD xs (at + suc i) d) ≡ take (suc n) (drop at xs)
+-- the n elements from index at on
+pub tabulate-part : {A : Type 0} (d : A) (n at : ℕ) (xs : List A) → at + n ≤ length xs
+    → tabulate n (λ i. getD xs (at + i) d) ≡ take n (drop at xs)
 tabulate-part d n at xs h =
-    ap (λ k. getD xs k d ∷ tabulate n (λ i. getD xs (at + suc i) d)) (sym (add-zero at))
-    ∙ tabulate-ext (suc n) (λ i k. sym (getD-drop at xs i d))
-    ∙ tabulate-take d (suc n) (drop at xs) (simp length-drop (omega arith))
+    tabulate-ext n (λ i k. sym (getD-drop at xs i d)) ∙ tabulate-take d n (drop at xs) (simp length-drop (omega arith))
 
 pub tabulate-xor : (n : ℕ) (a b : Bytes) → length a ≡ n → length b ≡ n → tabulate n (λ i. getD a i 0 ⊕ getD b i 0) ≡ a xor b
 tabulate-xor zero [] b h k = refl

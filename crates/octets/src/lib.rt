@@ -10,24 +10,13 @@ ghost use Rattle.octets.specs.Write.{Wrote};
 pub fn xor_block(a: [u8; 16], b: [u8; 16]) -> [u8; 16]
     ensures { λ block. ⌜ block ≡ a xor b ⌝ }
 {
-    [
-        a[0] ^ b[0],
-        a[1] ^ b[1],
-        a[2] ^ b[2],
-        a[3] ^ b[3],
-        a[4] ^ b[4],
-        a[5] ^ b[5],
-        a[6] ^ b[6],
-        a[7] ^ b[7],
-        a[8] ^ b[8],
-        a[9] ^ b[9],
-        a[10] ^ b[10],
-        a[11] ^ b[11],
-        a[12] ^ b[12],
-        a[13] ^ b[13],
-        a[14] ^ b[14],
-        a[15] ^ b[15],
-    ]
+    let mut block = [0u8; 16];
+    let mut i: usize = 0;
+    while i < 16 {
+        block[i] = a[i] ^ b[i];
+        i += 1;
+    }
+    block
 }
 
 // The 16 bytes from index `at` on.
@@ -35,24 +24,13 @@ pub fn block_at(bytes: &[u8], at: usize) -> [u8; 16]
     requires { ⌜ at + 16 ≤ length (now bytes) ⌝ }
     ensures { λ block. ⌜ block ≡ take 16 (drop at (now (bytes .entry))) ⌝ }
 {
-    [
-        bytes[at],
-        bytes[at + 1],
-        bytes[at + 2],
-        bytes[at + 3],
-        bytes[at + 4],
-        bytes[at + 5],
-        bytes[at + 6],
-        bytes[at + 7],
-        bytes[at + 8],
-        bytes[at + 9],
-        bytes[at + 10],
-        bytes[at + 11],
-        bytes[at + 12],
-        bytes[at + 13],
-        bytes[at + 14],
-        bytes[at + 15],
-    ]
+    let mut block = [0u8; 16];
+    let mut i: usize = 0;
+    while i < 16 {
+        block[i] = bytes[at + i];
+        i += 1;
+    }
+    block
 }
 
 // Copies src into out from index `at` on; the index behind it.

@@ -12,7 +12,7 @@ use Rattle.octets.specs.Bytes.{Bytes, zeros}
 use Rattle.octets.specs.Write.{over, Wrote}
 use Rattle.octets.proofs.Writing.{wrote-all, over-full}
 use Rattle.aes.specs.Aes.{ciph}
-use Rattle.aes.specs.declared.KeySize.{KeySize}
+use Rattle.key_schedule.specs.declared.KeySize.{KeySize}
 use Rattle.cmac.specs.Cmac.{cmac}
 use Rattle.cmac.specs.Running.{start, absorb, finish}
 use Rattle.cmac.specs.declared.Cmac.{Cmac}

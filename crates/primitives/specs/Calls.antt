@@ -8,8 +8,8 @@ use Rattle.octets.specs.Bytes.{Bytes, zeros}
 use Rattle.octets.specs.Choice.{if_then_else_}
 use Rattle.octets.specs.Write.{over}
 use Rattle.aes.specs.Aes.{aes, invAes}
-use Rattle.aes.specs.declared.KeySize.{KeySize}
-use Rattle.aes.specs.declared.KeySize.the-variants.{Aes128, Aes256}
+use Rattle.key_schedule.specs.declared.KeySize.{KeySize}
+use Rattle.key_schedule.specs.declared.KeySize.the-variants.{Aes128, Aes256}
 use Rattle.cbc.specs.Cbc.{cbcEncrypt, cbcDecrypt}
 use Rattle.cbc.specs.Whole.{whole}
 use Rattle.cmac.specs.Cmac.{cmac}

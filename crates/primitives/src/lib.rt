@@ -1,7 +1,7 @@
 // AES, CBC and CMAC for C (c/primitives.h): for the benchmark and the comparison with another library.
-use aes::KeySize;
 use cbc::Outcome;
 use cmac::Cmac;
+use key_schedule::KeySize;
 use octets::block_at;
 use octets::put_bytes;
 ghost use mathlib.Core.Path.{_≡_};
@@ -9,7 +9,7 @@ ghost use Prim.Native.Nat.{_≤_};
 ghost use lib.ListN.{length};
 ghost use Rattle.octets.specs.Bytes.{zeros};
 ghost use Rattle.octets.specs.Write.{over};
-ghost use Rattle.aes.specs.KeyExpansion.{schedule};
+ghost use Rattle.key_expansion.specs.KeyExpansion.{schedule};
 ghost use Rattle.primitives.specs.Calls.{keySize, aesAnswer, aesEncryptBuffer, aesDecryptBuffer};
 ghost use Rattle.primitives.specs.Calls.{cbcAnswer, cbcEncryptBuffer, cbcDecryptBuffer, cmacAnswer, cmacBuffer};
 
@@ -42,7 +42,7 @@ fn expanded(size: KeySize, key: &[u8]) -> [[u8; 4]; 60]
 {
     let mut bytes = [0u8; 32];
     put_bytes(&mut bytes, 0, key);
-    aes::key_expansion(size, bytes)
+    key_expansion::key_expansion(size, bytes)
 }
 
 #[no_mangle]

@@ -2,7 +2,7 @@
 // example vectors of appendix C, for AES-128 and AES-256. One value a line, under appendix C's
 // names, which serve for appendix B too: `start` is its "Start of Round", `s_box` its "After
 // SubBytes", `s_row` "After ShiftRows", `m_col` "After MixColumns", `k_sch` "Round Key Value".
-use aes::KeySize;
+use key_schedule::KeySize;
 ghost use Prim.Native.Nat.{_≤_, _<_};
 
 type State = [[u8; 4]; 4];
@@ -40,7 +40,7 @@ fn main() {
 fn sbox_difference(table: &[u8; 256]) -> usize {
     let mut x = 0;
     while x < 256 {
-        if table[x] != sbox::sbox_rule(x as u8) {
+        if table[x] != sbox_rule::sbox_rule(x as u8) {
             return x;
         }
         x += 1;
@@ -52,7 +52,7 @@ fn sbox_difference(table: &[u8; 256]) -> usize {
 fn inv_sbox_difference(table: &[u8; 256]) -> usize {
     let mut x = 0;
     while x < 256 {
-        if table[index(sbox::sbox_rule(x as u8))] != x as u8 {
+        if table[index(sbox_rule::sbox_rule(x as u8))] != x as u8 {
             return x;
         }
         x += 1;
@@ -78,30 +78,30 @@ fn report(table: &[u8], difference: usize) {
 }
 
 fn appendix_a1() {
-    let w = aes::key_expansion(KeySize::Aes128, KEY_A1);
+    let w = key_expansion::key_expansion(KeySize::Aes128, KEY_A1);
     key_schedule(b"FIPS 197 A.1 AES-128", &w, 44);
 }
 
 fn appendix_a3() {
-    let w = aes::key_expansion(KeySize::Aes256, KEY_A3);
+    let w = key_expansion::key_expansion(KeySize::Aes256, KEY_A3);
     key_schedule(b"FIPS 197 A.3 AES-256", &w, 60);
 }
 
 fn appendix_b() {
     let source = b"FIPS 197 B AES-128";
-    let w = aes::key_expansion(KeySize::Aes128, KEY_A1);
+    let w = key_expansion::key_expansion(KeySize::Aes128, KEY_A1);
     cipher(source, 10, &w, state::state_of(INPUT_B));
     let output = aes::encrypt_block(KeySize::Aes128, &w, INPUT_B);
     print::value(source, b" encrypt ", output);
 }
 
 fn appendix_c1() {
-    let w = aes::key_expansion(KeySize::Aes128, KEY_C1);
+    let w = key_expansion::key_expansion(KeySize::Aes128, KEY_C1);
     example_vectors(b"FIPS 197 C.1 AES-128", KeySize::Aes128, 10, &w);
 }
 
 fn appendix_c3() {
-    let w = aes::key_expansion(KeySize::Aes256, KEY_C3);
+    let w = key_expansion::key_expansion(KeySize::Aes256, KEY_C3);
     example_vectors(b"FIPS 197 C.3 AES-256", KeySize::Aes256, 14, &w);
 }
 
@@ -143,18 +143,18 @@ fn cipher(source: &[u8], rounds: usize, w: &[[u8; 4]; 60], input: State)
     requires { ⌜ rounds < 15 ⌝ }
 {
     step(source, 0, b".input ", input);
-    let mut s = key_added(source, 0, b".k_sch ", input, aes::round_key(w, 0));
+    let mut s = key_added(source, 0, b".k_sch ", input, key_schedule::round_key(w, 0));
     let mut round = 1;
     while round < rounds {
-        let next = full_round(source, round, s, aes::round_key(w, round));
+        let next = full_round(source, round, s, key_schedule::round_key(w, round));
         s = next;
         round += 1;
     }
-    last_round(source, rounds, s, aes::round_key(w, rounds));
+    last_round(source, rounds, s, key_schedule::round_key(w, rounds));
 }
 
 fn full_round(source: &[u8], round: usize, start: State, key: State) -> State {
-    let mixed = state::mix_columns(substituted_and_shifted(source, round, start));
+    let mixed = mix_columns::mix_columns(substituted_and_shifted(source, round, start));
     step(source, round, b".m_col ", mixed);
     key_added(source, round, b".k_sch ", mixed, key)
 }
@@ -169,9 +169,9 @@ fn last_round(source: &[u8], round: usize, start: State, key: State) {
 fn substituted_and_shifted(source: &[u8], round: usize, start: State) -> State {
     step(source, round, b".start ", start);
     let table = sbox::sbox();
-    let substituted = state::sub_bytes(&table, start);
+    let substituted = sub_bytes::sub_bytes(&table, start);
     step(source, round, b".s_box ", substituted);
-    let shifted = state::shift_rows(substituted);
+    let shifted = shift_rows::shift_rows(substituted);
     step(source, round, b".s_row ", shifted);
     shifted
 }
@@ -182,20 +182,26 @@ fn inv_cipher(source: &[u8], rounds: usize, w: &[[u8; 4]; 60], input: State)
     requires { ⌜ rounds < 15 ⌝ }
 {
     step(source, 0, b".iinput ", input);
-    let mut s = key_added(source, 0, b".ik_sch ", input, aes::round_key(w, rounds));
+    let mut s = key_added(
+        source,
+        0,
+        b".ik_sch ",
+        input,
+        key_schedule::round_key(w, rounds),
+    );
     let mut round = 1;
     while round < rounds {
-        let next = inv_full_round(source, round, s, aes::round_key(w, rounds - round));
+        let next = inv_full_round(source, round, s, key_schedule::round_key(w, rounds - round));
         s = next;
         round += 1;
     }
-    inv_last_round(source, rounds, s, aes::round_key(w, 0));
+    inv_last_round(source, rounds, s, key_schedule::round_key(w, 0));
 }
 
 fn inv_full_round(source: &[u8], round: usize, start: State, key: State) -> State {
     let added = inv_key_added(source, round, start, key);
     step(source, round, b".ik_add ", added);
-    state::inv_mix_columns(added)
+    inv_mix_columns::inv_mix_columns(added)
 }
 
 // The last round has no InvMixColumns.
@@ -206,17 +212,17 @@ fn inv_last_round(source: &[u8], round: usize, start: State, key: State) {
 
 fn inv_key_added(source: &[u8], round: usize, start: State, key: State) -> State {
     step(source, round, b".istart ", start);
-    let shifted = state::inv_shift_rows(start);
+    let shifted = shift_rows::inv_shift_rows(start);
     step(source, round, b".is_row ", shifted);
     let table = sbox::inv_sbox();
-    let substituted = state::sub_bytes(&table, shifted);
+    let substituted = sub_bytes::sub_bytes(&table, shifted);
     step(source, round, b".is_box ", substituted);
     key_added(source, round, b".ik_sch ", substituted, key)
 }
 
 fn key_added(source: &[u8], round: usize, name: &[u8], s: State, key: State) -> State {
     step(source, round, name, key);
-    state::add_round_key(s, key)
+    add_round_key::add_round_key(s, key)
 }
 
 fn step(source: &[u8], round: usize, name: &[u8], s: State) {

@@ -1,5 +1,5 @@
 // SP 800-38A appendix F.2: the CBC examples for AES-128 and AES-256, block by block.
-use aes::KeySize;
+use key_schedule::KeySize;
 ghost use Prim.Native.Nat.{_≤_};
 
 // A 16-byte key stands in the first half.
@@ -17,7 +17,7 @@ const PLAINTEXT: [u8; 64] = *b"\x6b\xc1\xbe\xe2\x2e\x40\x9f\x96\xe9\x3d\x7e\x11\
     \xf6\x9f\x24\x45\xdf\x4f\x9b\x17\xad\x2b\x41\x7b\xe6\x6c\x37\x10";
 
 fn main() {
-    let w = aes::key_expansion(KeySize::Aes128, KEY_128);
+    let w = key_expansion::key_expansion(KeySize::Aes128, KEY_128);
     let ciphertext = encrypted(KeySize::Aes128, &w, PLAINTEXT);
     blocks(
         b"SP 800-38A F.2.1 CBC-AES128.Encrypt",
@@ -32,7 +32,7 @@ fn main() {
         &plaintext,
     );
 
-    let w = aes::key_expansion(KeySize::Aes256, KEY_256);
+    let w = key_expansion::key_expansion(KeySize::Aes256, KEY_256);
     let ciphertext = encrypted(KeySize::Aes256, &w, PLAINTEXT);
     blocks(
         b"SP 800-38A F.2.5 CBC-AES256.Encrypt",

@@ -3,7 +3,7 @@
 use borrow.Author.Needs.{needs}
 use mathlib.Core.Path.{ap, _∙_}
 use Rattle.octets.proofs.Writing.{wrote-all}
-use Rattle.aes.specs.KeyExpansion.{schedule}
+use Rattle.key_expansion.specs.KeyExpansion.{schedule}
 use Rattle.primitives.proofs.expanded.Statement.{statement}
 use Rattle.primitives.proofs.expanded.Tie as tie
 
