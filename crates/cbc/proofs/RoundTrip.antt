@@ -97,6 +97,17 @@ module _ (ciph invCiph : Bytes → Bytes) (c : BlockCipher ciph invCiph) where
       (ap (λ (x : Bytes). x xor iv) (c .undo (p xor iv) hx) ∙ xor-bytes-undo p iv (hp .size ∙ sym (hv .size)))
       (decrypted (ciph (p xor iv)) (c .block (p xor iv) hx) ps hs)
 
+  -- the ciphertext is as long as the plaintext
+  pub length-cbcEncrypt : (iv : Bytes) → IsBlock iv → (plaintext : Bytes) → length plaintext % 16 ≡ 0 → IsBytes plaintext
+      → length (cbcEncrypt ciph iv plaintext) ≡ length plaintext
+  unfolding cbcEncrypt
+  length-cbcEncrypt iv hv xs h k =
+      let n : ℕ = length xs / 16 in
+      let whole : length xs ≡ 16 * n = omega arith in
+      let ps : List Bytes = blocks n xs in
+      let hc : Blocks (encryptBlocks ciph iv ps) = encrypted-blocks iv hv ps (are-blocks n xs whole k) in
+      length-joined (encryptBlocks ciph iv ps) hc ∙ omega (arith, length-encrypted iv ps, length-blocks n xs)
+
   pub cbcDecrypt-cbcEncrypt : (iv : Bytes) → IsBlock iv → (plaintext : Bytes) → length plaintext % 16 ≡ 0 → IsBytes plaintext
       → cbcDecrypt invCiph iv (cbcEncrypt ciph iv plaintext) ≡ plaintext
   unfolding cbcEncrypt cbcDecrypt

@@ -23,7 +23,7 @@ use Rattle.protocol.specs.Counter.{bigEndian, commandCounter, responseCo
 use Rattle.protocol.specs.Command.{commandInput}
 use Rattle.protocol.specs.Transcript.{Entry, add, messages, inputs, Direction, commands, responses, chaining, encrypted, wrapped}
 use Rattle.protocol.specs.Agreement.{Collision}
-use Rattle.protocol.proofs.ByteLists.{bytes-nil, bytes-cons, bytes-append, bytes-drop}
+use Rattle.ciphers.proofs.ByteLists.{bytes-nil, bytes-cons, bytes-append, bytes-drop}
 use Rattle.protocol.proofs.Logs.{append-cut, member, Chained, chained-snoc, Next, place, messages-append, length-messages}
 
 -- ---- what is asked of a direction

@@ -1,4 +1,3 @@
-pub mod ByteLists
 pub mod Logs
 pub mod Channel
 pub mod CallCases

@@ -4,9 +4,9 @@ use mathlib.Core.Path.{_≡_, sym, ap, _∙_, subst}
 use mathlib.Core.List.{[], _∷_, _++_}
 use Prim.Native.Nat.{ℕ, zero, suc, _+_, _-_, _<_, _≤_}
 use native.Mathlib.Omega.{arith}
-use lib.ListN.{length, getD, drop, length-append, length-drop, List·getD-append}
+use lib.ListN.{length, getD, drop, length-append, length-drop, List·getD-append, getD-replicate, length-replicate}
 use lib.Seq.{getD-append-add, getD-drop}
-use Rattle.octets.specs.Bytes.{Bytes, IsBytes}
+use Rattle.octets.specs.Bytes.{Bytes, IsBytes, zeros}
 use Rattle.octets.proofs.ByteStrings.{by-test}
 
 pub bytes-nil : IsBytes []
@@ -27,3 +27,8 @@ bytes-append xs ys f g i l =
 
 pub bytes-drop : (n : ℕ) (xs : Bytes) → IsBytes xs → IsBytes (drop n xs)
 bytes-drop n xs f i l = subst (λ (b : ℕ). b < 256) (sym (getD-drop n xs i 0)) (f (n + i) (omega (arith, length-drop n xs)))
+
+pub bytes-zeros : (n : ℕ) → IsBytes (zeros n)
+bytes-zeros n i l =
+    let e : length (zeros n) ≡ n = length-replicate n 0 in
+    subst (λ (b : ℕ). b < 256) (sym (getD-replicate n i 0 0 (omega (arith, e)))) (omega arith)

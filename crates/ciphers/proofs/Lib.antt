@@ -1,0 +1,3 @@
+pub mod ByteLists
+pub mod PaddedData
+pub mod AesLaws
