@@ -5,3 +5,5 @@ pub mod Invariant
 pub mod Runs
 pub mod Refused
 pub mod Delivered
+pub mod Theorems
+pub mod Examples

@@ -1,0 +1,277 @@
+-- Runs that the checker computes, with ciphers small enough to be computed: an honest run of two exchanges agrees and is not
+-- excepted; with a MAC that is always zeros, one run breaks each part of the claim.
+-- Assumes nothing.
+use mathlib.Core.Path.{_≡_, refl, sym, ap, _∙_}
+use mathlib.Core.Logic.{_⊎_, inl, inr}
+use mathlib.Core.Bool.{Bool, true, false, _&&_, _||_, not}
+use mathlib.Core.List.{List, [], _∷_, _++_, foldr, List·Memᴰ, List·Memᴰ·head, List·Memᴰ·tail}
+use mathlib.Core.Option.{Option, none, some}
+use Prim.Native.Nat.{ℕ, zero, suc, _+_, _*_, _/_, _%_, _<_}
+use native.Mathlib.Omega.{arith}
+use borrow.Author.Tests.{eqb-true, eqb-false, ne-eqb}
+use lib.Dec.{eqb}
+use lib.ListN.{length, replicate, getD}
+use Rattle.octets.specs.Bytes.{Bytes, IsBytes, zeros}
+use Rattle.octets.specs.Choice.{if_then_else_}
+use Rattle.compare.specs.Same.{same}
+use Rattle.compare.proofs.SameBytes.{same-eq, same-self}
+use Rattle.padding.specs.Padding.{padding, pad, paddedLength, marked, markBefore, unpad}
+use Rattle.padding.proofs.Lengths.{length-pad}
+use Rattle.tlv.specs.Length.{lengthField, readLength, isShortest}
+use Rattle.fields.specs.Wanted.{rank, allowed, rightSize, rightSecond, rightValue}
+use Rattle.fields.specs.Object.{require_else_⨾_ as need_else_⨾_, withLength, readObject}
+use Rattle.fields.specs.Field.{noted as notedObject, ended, onObject, walk, readField}
+use Rattle.objects.specs.Objects.{object, encryptedData, leObject, statusWord, macObject, commandObjects, responseObjects, commandField, responseField}
+use Rattle.objects.specs.Lengths.{ciphertextLength, encryptedDataLength, commandLength, responseLength}
+use Rattle.objects.specs.MacInput.{encodedHeader, commandMacInput, responseMacInput}
+use Rattle.session.specs.Valid.{allZero, keysEnd, keysZero, mcvsZero, keepsPhase, valid, countsAsOpen}
+use Rattle.session.specs.Turn.{isTurn}
+use Rattle.session.specs.Opening.{Keys, keysFit, openSuite, opening}
+use Rattle.session.specs.declared.Side.the-variants.{Host, Card}
+use Rattle.ciphers.specs.Ciphers.{Ciphers, Laws, IsKey, IsCounter}
+use Rattle.ciphers.specs.Aes.{dataIn}
+use Rattle.ciphers.proofs.PaddedData.{data-padded}
+use Rattle.protocol.specs.Message.{Message, Command, Response}
+use Rattle.protocol.specs.Permission.{insPermitted, leNeed, dataNeed, commandPermitted, statusPermitted, commandWanted, responseWanted}
+use Rattle.protocol.specs.Counter.{bigEndian, commandCounter, responseCounter}
+use Rattle.protocol.specs.Answer.{Answer, refused, gave, require_else_⨾_, _and-then_, afterRefusal, concluded, objectsOf, textOf}
+use Rattle.protocol.specs.Command.{commandInput, wrapCommandChecks, unwrapCommandChecks, commandMac, commandCiphertext, commandWrapped, hostWraps, cardUnwraps}
+use Rattle.protocol.specs.Response.{wrapResponseChecks, unwrapResponseChecks, responseMac, responseCiphertext, responseWrapped, cardWraps, hostUnwraps}
+use Rattle.protocol.specs.Transcript.{Call, wrapCommand, unwrapCommand, wrapResponse, unwrapResponse, close, messages, inputs, Transcript, lastMac, chaining, encrypted, wrapped, received, acceptedCommand, acceptedResponse, noted, entered, State, moved, does, step, run, start}
+use Rattle.protocol.specs.Agreement.{Agrees, chainingValues, Collision, MacBreak, Excepted}
+use Rattle.protocol.proofs.CallCases.{both}
+
+-- ---- toy ciphers
+
+toyMac : Bytes → Bytes → Bytes
+toyMac k m = let h = foldr (λ x a. (a * 31 + x + 7) % 65521) 1 (k ++ m) in h % 256 ∷ h / 256 ∷ zeros 14
+
+toyEncrypt : Bytes → Bytes → Bytes → Bytes
+toyEncrypt k n d = if eqb (length d) 0 then [] else pad d
+
+toyDecrypt : Bytes → Bytes → Bytes → Option Bytes
+toyDecrypt k n c = if eqb (length c) 0 then some [] else dataIn c (unpad c)
+
+toy : Ciphers
+toy = record { mac = toyMac; encrypt = toyEncrypt; decrypt = toyDecrypt }
+
+no-data : (d : Bytes) → length d ≡ 0 → d ≡ []
+no-data [] e = refl
+no-data (b ∷ d) e = let z : ⊥ = omega (arith, e) in absurd z
+
+toy-length : (d : Bytes) → length (toyEncrypt [] [] d) ≡ ciphertextLength (length d)
+unfolding toyEncrypt ciphertextLength
+toy-length d = go (eqb (length d) 0)
+  where
+    go : (t : Bool) → length (if t then [] else pad d) ≡ (if t then 0 else paddedLength (length d))
+    go true = refl
+    go false = length-pad d
+
+toy-undone : (d : Bytes) → toyDecrypt [] [] (toyEncrypt [] [] d) ≡ some d
+unfolding toyEncrypt toyDecrypt paddedLength
+toy-undone d = go (eqb (length d) 0) refl
+  where
+    go : (t : Bool) → eqb (length d) 0 ≡ t → toyDecrypt [] [] (if t then [] else pad d) ≡ some d
+    go true e = ap some (sym (no-data d (eqb-true (length d) 0 e)))
+    go false e =
+        let f : length d ≡ 0 → ⊥ = eqb-false (length d) 0 e in
+        let g : length (pad d) ≡ 0 → ⊥ = λ z. omega (arith, length-pad d, z) in
+        rw (ne-eqb (length (pad d)) 0 g) (data-padded d (omega (arith, f)))
+
+toy-laws : Laws toy
+unfolding toy toyMac toyEncrypt toyDecrypt
+toy-laws = record { mac-length = λ k m key. refl; encrypt-length = λ k n d key c y. toy-length d; decrypt-encrypt = λ k n d key c y. toy-undone d }
+
+-- a MAC that is always zeros
+flat : Ciphers
+flat = record { mac = λ k m. zeros 16; encrypt = toyEncrypt; decrypt = toyDecrypt }
+
+-- ---- messages
+
+keys : Keys
+keys = record { enc = replicate 16 1; mac = replicate 16 2; rmac = replicate 16 3 }
+
+verify : Command
+verify = record { header = record { ins = 0x20; p1 = 0x00; p2 = 0x98; le = false }; payload = 0x36 ∷ 0x35 ∷ 0x31 ∷ [] }
+
+getData : Command
+getData = record { header = record { ins = 0xCB; p1 = 0x3F; p2 = 0xFF; le = true }; payload = 0x5C ∷ 0x03 ∷ [] }
+
+okay : Response
+okay = record { header = record { sw1 = 0x90; sw2 = 0x00 }; payload = [] }
+
+certificate : Response
+certificate = record { header = record { sw1 = 0x90; sw2 = 0x00 }; payload = replicate 130 7 }
+
+-- ---- runs
+
+fieldOf : Answer Bytes → Bytes
+fieldOf (refused r) = []
+fieldOf (gave field) = field
+
+begin : State
+begin = start (opening Host 2 keys .session) (opening Card 2 keys .session)
+
+-- the calls of one honest exchange from this state
+exchange : Ciphers → State → Command → Response → List Call
+exchange C st m r =
+    let c1 = wrapCommand Host m 3000 in
+    let c2 = unwrapCommand Card (m .header .ins) (m .header .p1) (m .header .p2) (fieldOf (hostWraps C (st .host) m 3000 .answer)) 3000 in
+    let st2 = run C keys st (c1 ∷ c2 ∷ []) in
+    c1 ∷ c2 ∷ wrapResponse Card r 20000 ∷ unwrapResponse Host (r .header) (fieldOf (cardWraps C (st2 .card) r 20000 .answer)) 20000 ∷ []
+
+two : Ciphers → List Call
+two C = let first = exchange C begin verify okay in first ++ exchange C (run C keys begin first) getData certificate
+
+counts : Transcript → List ℕ
+counts t =
+    length (t .commandsWrapped) ∷ length (t .commandsAccepted) ∷ length (t .responsesWrapped) ∷ length (t .responsesAccepted) ∷ []
+
+-- ---- when chaining values are distinct
+
+among : Bytes → List Bytes → Bool
+among x [] = false
+among x (y ∷ l) = same x y || among x l
+
+distinct : List Bytes → Bool
+distinct [] = true
+distinct (x ∷ l) = not (among x l) && distinct l
+
+among-at : (x : Bytes) (l : List Bytes) (j : ℕ) → j < length l → x ≡ getD l j [] → among x l ≡ true
+unfolding among
+among-at x [] j h e = let z : ⊥ = omega arith in absurd z
+among-at x (y ∷ l) zero h e = rw (ap (same x) (sym e) ∙ same-self x)
+among-at x (y ∷ l) (suc j) h e = rw (among-at x l j (omega arith) e) (or-true (same x y))
+  where
+    or-true : (b : Bool) → (b || true) ≡ true
+    or-true true = refl
+    or-true false = refl
+
+apart : (l : List Bytes) → distinct l ≡ true → (i j : ℕ) → i < j → j < length l → getD l i [] ≡ getD l j [] → ⊥
+unfolding distinct
+apart [] d i j h l e = omega arith
+apart (x ∷ l) d i zero h m e = omega arith
+apart (x ∷ l) d zero (suc j) h m e =
+    let a : not (among x l) ≡ true = both (not (among x l)) (distinct l) d .0 in
+    let b : not (among x l) ≡ false = ap not (among-at x l j (omega arith) e) in
+    let z : _≡_ {A = ℕ} 0 1 = cc in omega arith
+apart (x ∷ l) d (suc i) (suc j) h m e = apart l (both (not (among x l)) (distinct l) d .1) i j (omega arith) (omega arith) e
+
+member-of : (x : Bytes) (l : List Bytes) → among x l ≡ true → List·Memᴰ x l
+unfolding among
+member-of x [] e = let z : _≡_ {A = ℕ} 0 1 = cc in let o : ⊥ = omega arith in absurd o
+member-of x (y ∷ l) e = go (same x y) refl e (member-of x l)
+  where
+    go : (t : Bool) → same x y ≡ t → (t || among x l) ≡ true → (among x l ≡ true → List·Memᴰ x l) → List·Memᴰ x (y ∷ l)
+    go true f e rest = List·Memᴰ·head (same-eq x y f)
+    go false f e rest = List·Memᴰ·tail (rest e)
+
+-- an input that was MACed, under distinct chaining values, breaks nothing
+sound : (C : Ciphers) (key : Bytes) (sent : List Bytes) (input mac : Bytes) → MacBreak C key sent input mac
+    → among input sent ≡ true → distinct (chainingValues C key sent) ≡ true → ⊥
+sound C key sent input mac b m d =
+    elim (b .cause) [ inl new ↦ new (member-of input sent m) | inr c ↦ apart (chainingValues C key sent) d (c .i) (c .j) (c .i<j) (c .within) (c .equal) ]
+
+-- ---- runs with a MAC that is always zeros, one for each part of the claim
+
+forged : Command → Bytes
+forged m = commandField (toyEncrypt [] [] (m .payload)) (m .header .le) (zeros 8)
+
+received-as : Command → Command → Call
+received-as m n = unwrapCommand Card (n .header .ins) (n .header .p1) (n .header .p2) (forged m) 3000
+
+-- VERIFY with another P2, and with other data
+other-header : Command
+other-header = record { header = record { ins = 0x20; p1 = 0x00; p2 = 0x80; le = false }; payload = 0x36 ∷ 0x35 ∷ 0x31 ∷ [] }
+
+other-data : Command
+other-data = record { header = record { ins = 0x20; p1 = 0x00; p2 = 0x98; le = false }; payload = 0x31 ∷ [] }
+
+-- GENERAL AUTHENTICATE without Le, and with it
+authenticate : Command
+authenticate = record { header = record { ins = 0x87; p1 = 0x07; p2 = 0x9E; le = false }; payload = 0x7C ∷ [] }
+
+with-le : Command
+with-le = record { header = record { ins = 0x87; p1 = 0x07; p2 = 0x9E; le = true }; payload = 0x7C ∷ [] }
+
+more-commands : List Call
+more-commands = received-as verify verify ∷ []
+
+more-responses : List Call
+more-responses = wrapCommand Host verify 3000 ∷ unwrapResponse Host (okay .header) (responseField [] 0x90 0x00 (zeros 8)) 3000 ∷ []
+
+header-changed : List Call
+header-changed = wrapCommand Host verify 3000 ∷ received-as verify other-header ∷ []
+
+data-changed : List Call
+data-changed = wrapCommand Host verify 3000 ∷ received-as other-data verify ∷ []
+
+le-changed : List Call
+le-changed = wrapCommand Host authenticate 3000 ∷ received-as with-le authenticate ∷ []
+
+status-changed : List Call
+status-changed =
+    wrapCommand Host verify 3000 ∷ received-as verify verify ∷ wrapResponse Card okay 3000
+    ∷ unwrapResponse Host (record { sw1 = 0x6A; sw2 = 0x82 }) (responseField [] 0x6A 0x82 (zeros 8)) 3000 ∷ []
+
+abbrev Broken : List Call → Type 0
+Broken calls = Agrees flat keys (run flat keys begin calls .transcript) → ⊥
+
+-- of the first message: P2, the data's length, whether Le is there; and SW1
+p2Of : List Command → ℕ
+p2Of [] = 0
+p2Of (m ∷ ms) = m .header .p2
+
+sizeOf : List Command → ℕ
+sizeOf [] = 0
+sizeOf (m ∷ ms) = length (m .payload)
+
+leOf : List Command → ℕ
+leOf [] = 0
+leOf (m ∷ ms) = if m .header .le then 1 else 0
+
+sw1Of : List Response → ℕ
+sw1Of [] = 0
+sw1Of (m ∷ ms) = m .header .sw1
+
+-- ---- computed
+
+record Computed : Type 0 where
+  counted : counts (run toy keys begin (two toy) .transcript) ≡ 2 ∷ 2 ∷ 2 ∷ 2 ∷ []
+  commands-given : messages (run toy keys begin (two toy) .transcript .commandsAccepted) ≡ verify ∷ getData ∷ []
+  responses-given : messages (run toy keys begin (two toy) .transcript .responsesAccepted) ≡ okay ∷ certificate ∷ []
+  not-excepted : Excepted toy keys begin (two toy) → ⊥
+  -- a above w, r above s, and each part of a message
+  a-above-w : Broken more-commands
+  r-above-s : Broken more-responses
+  header-differs : Broken header-changed
+  data-differs : Broken data-changed
+  le-differs : Broken le-changed
+  status-differs : Broken status-changed
+
+computed : Computed
+unfolding toyMac toyEncrypt toyDecrypt toy keys verify getData okay certificate fieldOf begin exchange two counts same padding pad paddedLength marked markBefore unpad lengthField readLength isShortest rank allowed rightSize rightSecond rightValue need_else_⨾_ withLength readObject notedObject ended onObject walk readField object encryptedData leObject statusWord macObject commandObjects responseObjects commandField responseField ciphertextLength encryptedDataLength commandLength responseLength encodedHeader commandMacInput responseMacInput allZero keysEnd keysZero mcvsZero keepsPhase valid countsAsOpen isTurn keysFit openSuite opening dataIn insPermitted leNeed dataNeed commandPermitted statusPermitted commandWanted responseWanted bigEndian commandCounter responseCounter require_else_⨾_ _and-then_ afterRefusal concluded objectsOf textOf commandInput wrapCommandChecks unwrapCommandChecks commandMac commandCiphertext commandWrapped hostWraps cardUnwraps wrapResponseChecks unwrapResponseChecks responseMac responseCiphertext responseWrapped cardWraps hostUnwraps lastMac chaining encrypted wrapped received acceptedCommand acceptedResponse noted entered moved does step run flat among distinct chainingValues forged received-as other-header other-data authenticate with-le more-commands more-responses header-changed data-changed le-changed status-changed p2Of sizeOf leOf sw1Of
+computed =
+    record {
+      counted = refl;
+      commands-given = refl;
+      responses-given = refl;
+      not-excepted = never;
+      a-above-w = λ v. let h = v .a≤w in omega (arith, h);
+      r-above-s = λ v. let h = v .r≤s in omega (arith, h);
+      header-differs = λ v. let e : _≡_ {A = ℕ} 0x80 0x98 = ap p2Of (v .commandsAgree) in omega (arith, e);
+      data-differs = λ v. let e : _≡_ {A = ℕ} 1 3 = ap sizeOf (v .commandsAgree) in omega (arith, e);
+      le-differs = λ v. let e : _≡_ {A = ℕ} 1 0 = ap leOf (v .commandsAgree) in omega (arith, e);
+      status-differs = λ v. let e : _≡_ {A = ℕ} 0x6A 0x90 = ap sw1Of (v .responsesAgree) in omega (arith, e);
+    }
+  where
+    never : Excepted toy keys begin (two toy) → ⊥
+    never (inl x) = x
+    never (inr (inl b)) = sound toy (keys .mac) _ _ _ b refl refl
+    never (inr (inr (inl x))) = x
+    never (inr (inr (inr (inl b)))) = sound toy (keys .rmac) _ _ _ b refl refl
+    never (inr (inr (inr (inr (inl x))))) = x
+    never (inr (inr (inr (inr (inr (inl b)))))) = sound toy (keys .mac) _ _ _ b refl refl
+    never (inr (inr (inr (inr (inr (inr (inl x))))))) = x
+    never (inr (inr (inr (inr (inr (inr (inr (inl b)))))))) = sound toy (keys .rmac) _ _ _ b refl refl
+    never (inr (inr (inr (inr (inr (inr (inr (inr x)))))))) = x
