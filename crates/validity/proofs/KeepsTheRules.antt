@@ -33,13 +33,15 @@ zeros-are-zero (suc n) = zeros-are-zero n
 
 -- ---- what the rules say, by phase
 
-rules : (s : Session) (phase : Phase) → countsAsOpen s ≡ true → s .phase ≡ phase → (s .count ≤ 65535) × (keepsPhase s phase ≡ true)
+rules : (s : Session) (phase : Phase) → countsAsOpen s ≡ true → s .phase ≡ phase
+    → (s .count ≤ 65535) × (keepsPhase s phase ≡ true)
 unfolding countsAsOpen valid
 rules s phase h e =
     let v = both (leb (s .count) 65535) (keepsPhase s (s .phase)) (both (isOpen (s .phase)) (valid s) h .1) in
     (leb-true (s .count) 65535 (v .0), sym (ap (keepsPhase s) e) ∙ v .1)
 
-serves : (s : Session) → isOpen (s .phase) ≡ true → s .count ≤ 65535 → keepsPhase s (s .phase) ≡ true → countsAsOpen s ≡ true
+serves : (s : Session) → isOpen (s .phase) ≡ true → s .count ≤ 65535 → keepsPhase s (s .phase) ≡ true
+    → countsAsOpen s ≡ true
 unfolding countsAsOpen valid
 serves s o h k = and-intro o (and-intro (le-leb (s .count) 65535 h) k)
 
@@ -66,7 +68,8 @@ fresh-served side suite k h =
     let n = keyLength suite in
     and-intro (and-intro (and-intro (behind (k .enc) n (f .enc)) (behind (k .mac) n (f .mac))) (behind (k .rmac) n (f .rmac))) refl
 
-pub opening-served : (side : Side) (suite : ℕ) (k : Keys) → opening side suite k .answer ≡ Done → countsAsOpen (opening side suite k .session) ≡ true
+pub opening-served : (side : Side) (suite : ℕ) (k : Keys) → opening side suite k .answer ≡ Done
+    → countsAsOpen (opening side suite k .session) ≡ true
 unfolding opening openSuite
 opening-served side suite k = go (suiteOf suite)
   where
@@ -96,7 +99,8 @@ command-served s mcv h e l =
         both (allZero (s .«command_mcv»)) (allZero (s .«response_mcv»)) (rw (eq-eqb (s .count) 0 z) at q) .1
     first false p q = refl
 
-pub response-served : (s : Session) (mcv : Bytes) → countsAsOpen s ≡ true → s .phase ≡ Pending → countsAsOpen (responseTaken s mcv) ≡ true
+pub response-served : (s : Session) (mcv : Bytes) → countsAsOpen s ≡ true → s .phase ≡ Pending
+    → countsAsOpen (responseTaken s mcv) ≡ true
 unfolding keepsPhase keysEnd
 response-served s mcv h e =
     let k = rules s Pending h e in

@@ -8,7 +8,12 @@ use Rattle.validity.specs.Valid.{keepsPhase}
 
 returns : tie.Need-returns
 unfolding keepsPhase
-returns c = rw (eq-eqb _ _ (c .before .before .before .if1 .taken), ← c .before .before .keys-zero .ensures, c .before .if2 .taken) (c .mcvs-zero .ensures)
+returns c =
+    rw (
+      eq-eqb _ _ (c .before .before .before .if1 .taken),
+      ← c .before .before .keys-zero .ensures,
+      c .before .if2 .taken,
+    ) (c .mcvs-zero .ensures)
 
 returns-2 : tie.Need-returns-2
 unfolding keepsPhase

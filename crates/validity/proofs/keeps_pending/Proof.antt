@@ -8,15 +8,29 @@ use Rattle.validity.specs.Valid.{keepsPhase}
 
 returns : tie.Need-returns
 unfolding keepsPhase
-returns c = rw (← c .before .before .before .before .before .before .before .keys-end .ensures, c .before .before .before .before .before .before .if1 .taken, le-leb _ _ (c .before .before .before .before .if2 .taken), eq-eqb _ _ (c .before .before .if3 .taken)) (c .all-zero .ensures)
+returns c =
+    rw (
+      ← c .before .before .before .before .before .before .before .keys-end .ensures,
+      c .before .before .before .before .before .before .if1 .taken,
+      le-leb _ _ (c .before .before .before .before .if2 .taken),
+      eq-eqb _ _ (c .before .before .if3 .taken),
+    )
+    (c .all-zero .ensures)
 
 returns-2 : tie.Need-returns-2
 unfolding keepsPhase
-returns-2 c = rw (← c .before .before .before .before .before .keys-end .ensures, c .before .before .before .before .if1 .taken, le-leb _ _ (c .before .before .if2 .taken), ne-eqb _ _ (c .if3 .left))
+returns-2 c =
+    rw (
+      ← c .before .before .before .before .before .keys-end .ensures,
+      c .before .before .before .before .if1 .taken,
+      le-leb _ _ (c .before .before .if2 .taken),
+      ne-eqb _ _ (c .if3 .left),
+    )
 
 returns-3 : tie.Need-returns-3
 unfolding keepsPhase
-returns-3 c = rw (← c .before .before .before .keys-end .ensures, c .before .before .if1 .taken, lt-leb _ _ (c .if2 .left))
+returns-3 c =
+    rw (← c .before .before .before .keys-end .ensures, c .before .before .if1 .taken, lt-leb _ _ (c .if2 .left))
 
 returns-4 : tie.Need-returns-4
 unfolding keepsPhase

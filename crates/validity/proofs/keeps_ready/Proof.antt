@@ -8,11 +8,17 @@ use Rattle.validity.specs.Valid.{keepsPhase}
 
 returns : tie.Need-returns
 unfolding keepsPhase
-returns c = rw (← c .before .before .before .before .keys-end .ensures, c .before .before .before .if1 .taken, eq-eqb _ _ (c .before .if2 .taken)) (c .mcvs-zero .ensures)
+returns c =
+    rw (
+      ← c .before .before .before .before .keys-end .ensures,
+      c .before .before .before .if1 .taken,
+      eq-eqb _ _ (c .before .if2 .taken),
+    ) (c .mcvs-zero .ensures)
 
 returns-2 : tie.Need-returns-2
 unfolding keepsPhase
-returns-2 c = rw (← c .before .before .before .keys-end .ensures, c .before .before .if1 .taken, ne-eqb _ _ (c .if2 .left))
+returns-2 c =
+    rw (← c .before .before .before .keys-end .ensures, c .before .before .if1 .taken, ne-eqb _ _ (c .if2 .left))
 
 returns-3 : tie.Need-returns-3
 unfolding keepsPhase

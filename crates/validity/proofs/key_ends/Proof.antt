@@ -14,7 +14,11 @@ returns : tie.Need-returns
 returns c =
     let a = c .before .before .before .args in
     let h : length (a .t1) ≡ 32 = search needs in
-    c .all-zero .ensures ∙ ap allZero (take-all (32 - a .n) (drop (a .n) (a .t1)) (omega (arith, h, length-drop (a .n) (a .t1))))
+    c .all-zero .ensures ∙ ap allZero (take-all (32 - a .n) (drop (a .n) (a .t1)) (omega (
+      arith,
+      h,
+      length-drop (a .n) (a .t1),
+    )))
 
 pub key-ends-spec : {M : Type 1} → statement M
 key-ends-spec =

@@ -7,11 +7,23 @@ use Rattle.validity.specs.Valid.{keysZero}
 
 returns : tie.Need-returns
 unfolding keysZero
-returns c = rw (← c .before .before .before .before .before .before .all-zero .ensures, c .before .before .before .before .before .if1 .taken, ← c .before .before .before .all-zero2 .ensures, c .before .before .if2 .taken) (c .all-zero3 .ensures)
+returns c =
+    rw (
+      ← c .before .before .before .before .before .before .all-zero .ensures,
+      c .before .before .before .before .before .if1 .taken,
+      ← c .before .before .before .all-zero2 .ensures,
+      c .before .before .if2 .taken,
+    ) (c .all-zero3 .ensures)
 
 returns-2 : tie.Need-returns-2
 unfolding keysZero
-returns-2 c = rw (← c .before .before .before .before .all-zero .ensures, c .before .before .before .if1 .taken, ← c .before .all-zero2 .ensures, c .if2 .left)
+returns-2 c =
+    rw (
+      ← c .before .before .before .before .all-zero .ensures,
+      c .before .before .before .if1 .taken,
+      ← c .before .all-zero2 .ensures,
+      c .if2 .left,
+    )
 
 returns-3 : tie.Need-returns-3
 unfolding keysZero
