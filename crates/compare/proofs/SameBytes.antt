@@ -11,6 +11,7 @@ use lib.Bits.{bitXor, bitOr, bitAnd, or-add-and, and-le-l, and-le-r, or-zero-l, 
 use lib.Dec.{eqb}
 use lib.ListN.{length, getD, take}
 use Rattle.octets.specs.Bytes.{Bytes}
+use Rattle.octets.proofs.Conjunction.{both}
 use Rattle.octets.proofs.Xor.{xor-eq}
 use Rattle.compare.specs.Same.{same}
 
@@ -22,10 +23,6 @@ same-eq (x ∷ xs) [] e = let z : _≡_ {A = ℕ} 0 1 = cc in let o : ⊥ = omeg
 same-eq (x ∷ xs) (y ∷ ys) e =
     let b : (eqb x y ≡ true) × (same xs ys ≡ true) = both (eqb x y) (same xs ys) e in
     ap₂ (λ (h : ℕ) (t : Bytes). h ∷ t) (eqb-true x y (b .0)) (same-eq xs ys (b .1))
-  where
-    both : (a b : Bool) → (a && b) ≡ true → (a ≡ true) × (b ≡ true)
-    both true b e = (refl, e)
-    both false b e = let z : _≡_ {A = ℕ} 0 1 = cc in let o : ⊥ = omega arith in absurd o
 
 pub same-self : (xs : Bytes) → same xs xs ≡ true
 unfolding same

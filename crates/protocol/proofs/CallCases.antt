@@ -21,7 +21,7 @@ use Rattle.refusal.specs.declared.Refusal.{Refusal}
 use Rattle.refusal.specs.declared.Refusal.the-variants.{SessionClosed, OutOfTurn, NotPermitted, TooLong, CommandLimit, BufferTooSmall, Malformed, MissingObject, BadMac, BadPadding, Unprotected}
 use Rattle.session.specs.Session.{commandTaken, responseTaken, keyIn}
 use Rattle.session.specs.Turn.{sameSide, samePhase, isTurn}
-use Rattle.session.specs.Valid.{countsAsOpen}
+use Rattle.validity.specs.Valid.{countsAsOpen}
 use Rattle.session.specs.declared.Side.{Side}
 use Rattle.session.specs.declared.Side.the-variants.{Host, Card}
 use Rattle.session.specs.declared.Phase.{Phase}

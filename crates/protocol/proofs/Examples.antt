@@ -24,7 +24,7 @@ use Rattle.fields.specs.Field.{noted as notedObject, ended, onObject, walk, rea
 use Rattle.objects.specs.Objects.{object, encryptedData, leObject, statusWord, macObject, commandObjects, responseObjects, commandField, responseField}
 use Rattle.objects.specs.Lengths.{ciphertextLength, encryptedDataLength, commandLength, responseLength}
 use Rattle.objects.specs.MacInput.{encodedHeader, commandMacInput, responseMacInput}
-use Rattle.session.specs.Valid.{allZero, keysEnd, keysZero, mcvsZero, keepsPhase, valid, countsAsOpen}
+use Rattle.validity.specs.Valid.{allZero, keysEnd, keysZero, mcvsZero, keepsPhase, valid, countsAsOpen}
 use Rattle.session.specs.Turn.{isTurn}
 use Rattle.session.specs.Opening.{Keys, keysFit, openSuite, opening}
 use Rattle.session.specs.declared.Side.the-variants.{Host, Card}

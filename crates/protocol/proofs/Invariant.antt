@@ -28,7 +28,7 @@ use Rattle.refusal.specs.Refusal.{number}
 use Rattle.refusal.specs.declared.Refusal.{Refusal}
 use Rattle.session.specs.Session.{closed, commandTaken, responseTaken, keyIn}
 use Rattle.session.specs.Turn.{isTurn}
-use Rattle.session.specs.Valid.{keepsPhase, valid, isOpen, countsAsOpen}
+use Rattle.validity.specs.Valid.{keepsPhase, valid, isOpen, countsAsOpen}
 use Rattle.session.specs.Opening.{Keys}
 use Rattle.session.specs.declared.Side.{Side}
 use Rattle.session.specs.declared.Side.the-variants.{Host, Card}

@@ -15,7 +15,7 @@ use Rattle.octets.specs.Choice.{if_then_else_}
 use Rattle.refusal.specs.declared.Refusal.{Refusal}
 use Rattle.session.specs.Suites.{keyLength, suiteOf}
 use Rattle.session.specs.Session.{fresh, closed, stored, keyIn}
-use Rattle.session.specs.Valid.{countsAsOpen}
+use Rattle.validity.specs.Valid.{countsAsOpen}
 use Rattle.session.specs.Opening.{Keys, keysFit, openSuite, opening}
 use Rattle.session.specs.declared.Side.{Side}
 use Rattle.session.specs.declared.Side.the-variants.{Host, Card}

@@ -13,7 +13,7 @@ use Rattle.objects.specs.MacInput.{commandMacInput}
 use Rattle.refusal.specs.declared.Refusal.the-variants.{SessionClosed, OutOfTurn, NotPermitted, TooLong, CommandLimit, BufferTooSmall, BadMac}
 use Rattle.session.specs.Session.{commandTaken, keyIn}
 use Rattle.session.specs.Turn.{isTurn}
-use Rattle.session.specs.Valid.{countsAsOpen}
+use Rattle.validity.specs.Valid.{countsAsOpen}
 use Rattle.session.specs.declared.Side.the-variants.{Host, Card}
 use Rattle.session.specs.declared.Phase.the-variants.{Ready}
 use Rattle.session.specs.declared.Session.{Session}

@@ -7,7 +7,7 @@ use lib.ListN.{length}
 use Rattle.octets.specs.Bytes.{Bytes, IsBytes}
 use Rattle.objects.specs.Lengths.{ciphertextLength, commandLength, responseLength}
 use Rattle.session.specs.Session.{keyIn}
-use Rattle.session.specs.Valid.{countsAsOpen}
+use Rattle.validity.specs.Valid.{countsAsOpen}
 use Rattle.session.specs.declared.Side.the-variants.{Host, Card}
 use Rattle.session.specs.declared.Phase.{Phase}
 use Rattle.session.specs.declared.Phase.the-variants.{Ready, Pending}

@@ -1,5 +1,5 @@
 pub mod Suites
 pub mod Session
-pub mod Valid
 pub mod Opening
 pub mod Turn
+pub mod Arrays

@@ -10,7 +10,6 @@ use Rattle.refusal.specs.declared.Refusal.the-variants.{UnknownSuite, BadKeyLen
 use Rattle.session.specs.Suites.{keyLength, suiteOf}
 use Rattle.session.specs.Session.{fresh, noSession, stored}
 use Rattle.session.specs.declared.Side.{Side}
-use Rattle.session.specs.declared.Suite.{Suite}
 use Rattle.session.specs.declared.SuiteNumber.{SuiteNumber}
 use Rattle.session.specs.declared.SuiteNumber.the-variants.{Known, Unknown}
 use Rattle.session.specs.declared.Opening.the-variants.{Opened as Done, Refused}
@@ -21,6 +20,9 @@ pub record Keys : Type 0 where
   pub enc : Bytes
   pub mac : Bytes
   pub rmac : Bytes
+
+abbrev pub keys : Bytes → Bytes → Bytes → Keys
+keys enc mac rmac = record { enc = enc; mac = mac; rmac = rmac }
 
 -- each has the suite's length
 unfoldable pub keysFit : ℕ → Keys → Bool

@@ -1,6 +1,6 @@
 -- Document 01, "The session and whose turn it is": every way in which a session value comes about. Assumes nothing.
 use mathlib.Core.List.{_++_}
-use Prim.Native.Nat.{ℕ, _+_, _-_}
+use Prim.Native.Nat.{_+_, _-_}
 use lib.ListN.{length, take}
 use Rattle.octets.specs.Bytes.{Bytes, zeros}
 use Rattle.session.specs.Suites.{keyLength}

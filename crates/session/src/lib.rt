@@ -1,8 +1,13 @@
 // The session of secure messaging: a value that each call takes and gives back (document 01, "The session and whose turn it is").
+use octets::put_bytes;
 use refusal::Refusal;
 ghost use mathlib.Core.Path.{_≡_};
+ghost use Prim.Native.Nat.{_<_, _≤_};
+ghost use lib.ListN.{length};
 ghost use Rattle.session.specs.Suites.{keyLength, number, suiteOf};
-ghost use Rattle.session.specs.Session.{fresh, closed, noSession};
+ghost use Rattle.session.specs.Session.{fresh, closed, closedAt, noSession, commandTaken, responseTaken, stored};
+ghost use Rattle.session.specs.Turn.{sameSide, samePhase, isTurn};
+ghost use Rattle.session.specs.Opening.{keys, keysFit, notOpened, openSuite, opening};
 
 pub enum Side {
     Host,
@@ -118,12 +123,10 @@ impl Session {
         }
     }
 
-    // Side and suite stay; keys, count and chaining values become zero.
-    pub fn close(self) -> Session
-        ensures { λ session. ⌜ session ≡ closed self ⌝ }
+    // Nothing is left but side and suite.
+    pub fn closed_at(side: Side, suite: Suite) -> Session
+        ensures { λ session. ⌜ session ≡ closedAt side suite ⌝ }
     {
-        let side = self.side;
-        let suite = self.suite;
         Session {
             side,
             phase: Phase::Closed,
@@ -136,4 +139,185 @@ impl Session {
             response_mcv: [0; 16],
         }
     }
+
+    // What stands where there is no session.
+    pub fn none(side: Side) -> Session
+        ensures { λ session. ⌜ session ≡ noSession side ⌝ }
+    {
+        Session::closed_at(side, Suite::Cs2)
+    }
+
+    // Side and suite stay; keys, count and chaining values become zero.
+    pub fn close(self) -> Session
+        ensures { λ session. ⌜ session ≡ closed self ⌝ }
+    {
+        let side = self.side;
+        let suite = self.suite;
+        Session::closed_at(side, suite)
+    }
+
+    // After a command wrapped, at the host, or accepted, at the card.
+    pub fn command_taken(self, mcv: [u8; 16]) -> Session
+        requires { ⌜ self .count < 65535 ⌝ }
+        ensures { λ session. ⌜ session ≡ commandTaken self mcv ⌝ }
+    {
+        let side = self.side;
+        let suite = self.suite;
+        let sk_enc = self.sk_enc;
+        let sk_mac = self.sk_mac;
+        let sk_rmac = self.sk_rmac;
+        let response_mcv = self.response_mcv;
+        Session {
+            side,
+            phase: Phase::Pending,
+            suite,
+            count: self.count + 1,
+            sk_enc,
+            sk_mac,
+            sk_rmac,
+            command_mcv: mcv,
+            response_mcv,
+        }
+    }
+
+    // After its response wrapped, at the card, or accepted, at the host.
+    pub fn response_taken(self, mcv: [u8; 16]) -> Session
+        ensures { λ session. ⌜ session ≡ responseTaken self mcv ⌝ }
+    {
+        let side = self.side;
+        let suite = self.suite;
+        let sk_enc = self.sk_enc;
+        let sk_mac = self.sk_mac;
+        let sk_rmac = self.sk_rmac;
+        let command_mcv = self.command_mcv;
+        Session {
+            side,
+            phase: Phase::Ready,
+            suite,
+            count: self.count,
+            sk_enc,
+            sk_mac,
+            sk_rmac,
+            command_mcv,
+            response_mcv: mcv,
+        }
+    }
+
+    // The host's opening: refusals 11 and 12.
+    pub fn open_host(suite: u32, sk_enc: &[u8], sk_mac: &[u8], sk_rmac: &[u8]) -> Opened
+        ensures { λ opened. ⌜ opened ≡ opening Side.Host suite (keys (now («sk_enc» .entry)) (now («sk_mac» .entry)) (now («sk_rmac» .entry))) ⌝ }
+    {
+        open_session(Side::Host, suite, sk_enc, sk_mac, sk_rmac)
+    }
+
+    // The card's opening: refusals 11 and 12.
+    pub fn open_card(suite: u32, sk_enc: &[u8], sk_mac: &[u8], sk_rmac: &[u8]) -> Opened
+        ensures { λ opened. ⌜ opened ≡ opening Side.Card suite (keys (now («sk_enc» .entry)) (now («sk_mac» .entry)) (now («sk_rmac» .entry))) ⌝ }
+    {
+        open_session(Side::Card, suite, sk_enc, sk_mac, sk_rmac)
+    }
+}
+
+// A key in its 32 bytes.
+fn stored(key: &[u8]) -> [u8; 32]
+    requires { ⌜ length (now key) ≤ 32 ⌝ }
+    ensures { λ bytes. ⌜ bytes ≡ stored (now (key .entry)) ⌝ }
+{
+    let mut bytes = [0u8; 32];
+    put_bytes(&mut bytes, 0, key);
+    bytes
+}
+
+fn keys_fit(n: usize, enc: &[u8], mac: &[u8], rmac: &[u8]) -> bool
+    ensures { λ fit. ⌜ fit ≡ keysFit n (keys (now (enc .entry)) (now (mac .entry)) (now (rmac .entry))) ⌝ }
+{
+    if enc.len() == n {
+        if mac.len() == n {
+            return rmac.len() == n;
+        }
+    }
+    false
+}
+
+fn not_opened(side: Side, refusal: Refusal) -> Opened
+    ensures { λ opened. ⌜ opened ≡ notOpened side refusal ⌝ }
+{
+    let session = Session::none(side);
+    Opened {
+        answer: Opening::Refused(refusal),
+        session,
+    }
+}
+
+fn open_suite(side: Side, suite: Suite, enc: &[u8], mac: &[u8], rmac: &[u8]) -> Opened
+    ensures { λ opened. ⌜ opened ≡ openSuite side (SuiteNumber.Known suite) (keys (now (enc .entry)) (now (mac .entry)) (now (rmac .entry))) ⌝ }
+{
+    let n = suite.key_length();
+    if keys_fit(n, enc, mac, rmac) {
+        let session = Session::fresh(side, suite, stored(enc), stored(mac), stored(rmac));
+        return Opened {
+            answer: Opening::Opened,
+            session,
+        };
+    }
+    not_opened(side, Refusal::BadKeyLength)
+}
+
+fn open_session(side: Side, suite: u32, enc: &[u8], mac: &[u8], rmac: &[u8]) -> Opened
+    ensures { λ opened. ⌜ opened ≡ opening side suite (keys (now (enc .entry)) (now (mac .entry)) (now (rmac .entry))) ⌝ }
+{
+    let known = suite_of(suite);
+    match known {
+        SuiteNumber::Known(cipher_suite) => open_suite(side, cipher_suite, enc, mac, rmac),
+        SuiteNumber::Unknown => not_opened(side, Refusal::UnknownSuite),
+    }
+}
+
+fn same_side(a: Side, b: Side) -> bool
+    ensures { λ same. ⌜ same ≡ sameSide a b ⌝ }
+{
+    match a {
+        Side::Host => match b {
+            Side::Host => true,
+            Side::Card => false,
+        },
+        Side::Card => match b {
+            Side::Host => false,
+            Side::Card => true,
+        },
+    }
+}
+
+fn same_phase(a: Phase, b: Phase) -> bool
+    ensures { λ same. ⌜ same ≡ samePhase a b ⌝ }
+{
+    match a {
+        Phase::Ready => match b {
+            Phase::Ready => true,
+            Phase::Pending => false,
+            Phase::Closed => false,
+        },
+        Phase::Pending => match b {
+            Phase::Ready => false,
+            Phase::Pending => true,
+            Phase::Closed => false,
+        },
+        Phase::Closed => match b {
+            Phase::Ready => false,
+            Phase::Pending => false,
+            Phase::Closed => true,
+        },
+    }
+}
+
+// Whether a call that is made at that side, in that phase, is in turn.
+pub fn is_turn(side: Side, phase: Phase, session: Session) -> bool
+    ensures { λ turn. ⌜ turn ≡ isTurn side phase session ⌝ }
+{
+    let own = session.side;
+    let now = session.phase;
+    if same_side(own, side) {
+        return same_phase(now, phase);
+    }
+    false
 }

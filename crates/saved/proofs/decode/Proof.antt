@@ -1,0 +1,31 @@
+-- `decode` meets its contract: right first bytes, or not.
+-- Assumes nothing.
+use borrow.Author.Needs.{needs}
+use Rattle.saved.proofs.decode.Statement.{statement}
+use Rattle.saved.proofs.decode.Tie as tie
+use mathlib.Core.Path.{sym, _∙_}
+use Rattle.saved.proofs.SavedParts.{headed-right}
+use Rattle.saved.specs.Saved.{decode}
+
+decode-suite-requires : tie.Need-decode-suite-requires
+decode-suite-requires c κs =
+    headed-right (c .before .before .before .args .bytes .now)
+    (sym (c .before .headed .ensures) ∙ c .if1 .taken) .size
+
+returns : tie.Need-returns
+unfolding decode
+returns c = rw (← c .before .before .headed .ensures, c .before .if1 .taken) (c .decode-suite .ensures)
+
+returns-2 : tie.Need-returns-2
+unfolding decode
+returns-2 c = rw (← c .before .before .headed .ensures, c .before .if1 .left) (c .unreadable .ensures)
+
+pub decode-spec : {M : Type 1} → statement M
+decode-spec =
+    tie.close
+    (tie.spec
+    (λ c κs. search needs)
+    decode-suite-requires
+    returns
+    (λ c κs. search needs)
+    returns-2)

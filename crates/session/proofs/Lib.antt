@@ -1,0 +1,2 @@
+pub mod StoredKeys
+pub mod ArraysKept

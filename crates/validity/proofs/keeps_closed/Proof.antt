@@ -1,0 +1,27 @@
+-- `keeps_closed` meets its contract: one case for each test.
+-- Assumes nothing.
+use borrow.Author.Needs.{needs}
+use Rattle.validity.proofs.keeps_closed.Statement.{statement}
+use Rattle.validity.proofs.keeps_closed.Tie as tie
+use borrow.Author.Tests.{eq-eqb, ne-eqb}
+use Rattle.validity.specs.Valid.{keepsPhase}
+
+returns : tie.Need-returns
+unfolding keepsPhase
+returns c =
+    rw (
+      eq-eqb _ _ (c .before .before .before .if1 .taken),
+      ← c .before .before .keys-zero .ensures,
+      c .before .if2 .taken,
+    ) (c .mcvs-zero .ensures)
+
+returns-2 : tie.Need-returns-2
+unfolding keepsPhase
+returns-2 c = rw (eq-eqb _ _ (c .before .before .if1 .taken), ← c .before .keys-zero .ensures, c .if2 .left)
+
+returns-3 : tie.Need-returns-3
+unfolding keepsPhase
+returns-3 c = rw (ne-eqb _ _ (c .if1 .left))
+
+pub keeps-closed-spec : {M : Type 1} → statement M
+keeps-closed-spec = tie.close (tie.spec (λ c κs. search needs) (λ c κs. search needs) returns returns-2 returns-3)

@@ -1,0 +1,28 @@
+-- `keeps_ready` meets its contract: one case for each test.
+-- Assumes nothing.
+use borrow.Author.Needs.{needs}
+use Rattle.validity.proofs.keeps_ready.Statement.{statement}
+use Rattle.validity.proofs.keeps_ready.Tie as tie
+use borrow.Author.Tests.{eq-eqb, ne-eqb}
+use Rattle.validity.specs.Valid.{keepsPhase}
+
+returns : tie.Need-returns
+unfolding keepsPhase
+returns c =
+    rw (
+      ← c .before .before .before .before .keys-end .ensures,
+      c .before .before .before .if1 .taken,
+      eq-eqb _ _ (c .before .if2 .taken),
+    ) (c .mcvs-zero .ensures)
+
+returns-2 : tie.Need-returns-2
+unfolding keepsPhase
+returns-2 c =
+    rw (← c .before .before .before .keys-end .ensures, c .before .before .if1 .taken, ne-eqb _ _ (c .if2 .left))
+
+returns-3 : tie.Need-returns-3
+unfolding keepsPhase
+returns-3 c = rw (← c .before .keys-end .ensures, c .if1 .left)
+
+pub keeps-ready-spec : {M : Type 1} → statement M
+keeps-ready-spec = tie.close (tie.spec (λ c κs. search needs) (λ c κs. search needs) returns returns-2 returns-3)
