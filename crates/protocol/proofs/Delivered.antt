@@ -32,6 +32,7 @@ use Rattle.session.specs.declared.Side.{Side}
 use Rattle.session.specs.declared.Side.the-variants.{Host, Card}
 use Rattle.session.specs.declared.Phase.{Phase}
 use Rattle.session.specs.declared.Phase.the-variants.{Ready, Pending, Closed}
+use Rattle.session.specs.declared.SuiteNumber.the-variants.{Known}
 use Rattle.session.specs.declared.Session.{Session}
 use Rattle.ciphers.specs.Ciphers.{Ciphers, Laws, IsKey}
 use Rattle.protocol.specs.Message.{CommandHeader, StatusWord, Message, Command, Response, maxCommandData, maxResponseData, commandLimit}
@@ -40,9 +41,11 @@ use Rattle.protocol.specs.Counter.{commandCounter, responseCounter}
 use Rattle.protocol.specs.Answer.{Answer, refused, gave, require_else_⨾_, _and-then_, Outcome, Out, concluded, objectsOf, textOf}
 use Rattle.protocol.specs.Command.{CommandGiven, wrapCommandChecks, unwrapCommandChecks, commandInput, commandMac, commandCiphertext, commandWrapped, headerRead, hostWraps, cardUnwraps}
 use Rattle.protocol.specs.Response.{wrapResponseChecks, unwrapResponseChecks, responseMac, responseCiphertext, responseWrapped, cardWraps, hostUnwraps}
-use Rattle.protocol.specs.HonestDelivery.{InStep, Keyed, CommandDelivered, DeliversCommands, ResponseDelivered, DeliversResponses}
+use Rattle.protocol.specs.HonestDelivery.{InStep, Keyed, CommandDelivered, DeliversCommands, ResponseDelivered, DeliversResponses, OpensInStep}
+use Rattle.validity.proofs.KeepsTheRules.{opening-served, command-served, response-served}
 use Rattle.protocol.proofs.Channel.{command-lawful, response-lawful}
 use Rattle.protocol.proofs.CallCases.{both}
+use Rattle.protocol.proofs.Runs.{Fresh, opened}
 
 pass : {A : Type 0} (ok : Bool) (r : Refusal) (rest a : Answer A) → ok ≡ true → rest ≡ a → (require ok else r ⨾ rest) ≡ a
 unfolding require_else_⨾_
@@ -211,6 +214,32 @@ module _ (C : Ciphers) (L : Laws C) (h c : Session) (m : Command) (wrapRoom unwr
         back .second,
       )
 
+  command-delivered : CommandDelivered C h c m wrapRoom unwrapRoom
+  command-delivered =
+      record {
+        field = field;
+        host = commandTaken h full;
+        card = commandTaken c full;
+        wraps = wraps;
+        unwraps = unwraps;
+        again =
+          record {
+            host-open = command-served h full (step .host-open) (step .host-phase) counted;
+            card-open = command-served c full (step .card-open) (step .card-phase) (omega (arith, step .counts, counted));
+            host-side = step .host-side;
+            card-side = step .card-side;
+            host-phase = refl;
+            card-phase = refl;
+            suites = step .suites;
+            counts = ap (λ (i : ℕ). i + 1) (step .counts);
+            encs = step .encs;
+            macs = step .macs;
+            rmacs = step .rmacs;
+            command-mcvs = refl;
+            response-mcvs = step .response-mcvs;
+          };
+      }
+
 -- ---- a response
 
 module _ (C : Ciphers) (L : Laws C) (h c : Session) (m : Response) (wrapRoom unwrapRoom : ℕ) (step : InStep Pending h c) (keyed : Keyed h)
@@ -312,3 +341,59 @@ module _ (C : Ciphers) (L : Laws C) (h c : Session) (m : Response) (wrapRoom unw
         same-self (take 8 whole),
         response-text,
       )
+
+  response-delivered : ResponseDelivered C h c m wrapRoom unwrapRoom
+  response-delivered =
+      record {
+        field = sent;
+        host = responseTaken h whole;
+        card = responseTaken c whole;
+        wraps = response-wraps;
+        unwraps = response-unwraps;
+        again =
+          record {
+            host-open = response-served h whole (step .host-open) (step .host-phase);
+            card-open = response-served c whole (step .card-open) (step .card-phase);
+            host-side = step .host-side;
+            card-side = step .card-side;
+            host-phase = refl;
+            card-phase = refl;
+            suites = step .suites;
+            counts = step .counts;
+            encs = step .encs;
+            macs = step .macs;
+            rmacs = step .rmacs;
+            command-mcvs = step .command-mcvs;
+            response-mcvs = refl;
+          };
+      }
+
+pub delivers-commands : (C : Ciphers) → Laws C → DeliversCommands C
+delivers-commands C L h c m wrapRoom unwrapRoom step keyed counted permitted fits bytes wrapFits unwrapFits =
+    command-delivered C L h c m wrapRoom unwrapRoom step keyed counted permitted fits bytes wrapFits unwrapFits
+
+pub delivers-responses : (C : Ciphers) → Laws C → DeliversResponses C
+delivers-responses C L h c m wrapRoom unwrapRoom step keyed permitted fits bytes wrapFits unwrapFits =
+    response-delivered C L h c m wrapRoom unwrapRoom step keyed permitted fits bytes wrapFits unwrapFits
+
+pub opens-in-step : OpensInStep
+opens-in-step n K oh oc =
+    let h : Fresh Host n K = opened Host n K oh in
+    let c : Fresh Card n K = opened Card n K oc in
+    let k : Known (c .suite) ≡ Known (h .suite) = sym (c .known) ∙ h .known in
+    let s : c .suite ≡ h .suite = cc in
+    record {
+      host-open = opening-served Host n K oh;
+      card-open = opening-served Card n K oc;
+      host-side = ap (λ (t : Session). t .side) (h .is);
+      card-side = ap (λ (t : Session). t .side) (c .is);
+      host-phase = ap (λ (t : Session). t .phase) (h .is);
+      card-phase = ap (λ (t : Session). t .phase) (c .is);
+      suites = ap (λ (t : Session). t .suite) (c .is) ∙ s ∙ sym (ap (λ (t : Session). t .suite) (h .is));
+      counts = ap (λ (t : Session). t .count) (c .is) ∙ sym (ap (λ (t : Session). t .count) (h .is));
+      encs = ap (λ (t : Session). t .«sk_enc») (c .is) ∙ sym (ap (λ (t : Session). t .«sk_enc») (h .is));
+      macs = ap (λ (t : Session). t .«sk_mac») (c .is) ∙ sym (ap (λ (t : Session). t .«sk_mac») (h .is));
+      rmacs = ap (λ (t : Session). t .«sk_rmac») (c .is) ∙ sym (ap (λ (t : Session). t .«sk_rmac») (h .is));
+      command-mcvs = ap (λ (t : Session). t .«command_mcv») (c .is) ∙ sym (ap (λ (t : Session). t .«command_mcv») (h .is));
+      response-mcvs = ap (λ (t : Session). t .«response_mcv») (c .is) ∙ sym (ap (λ (t : Session). t .«response_mcv») (h .is));
+    }

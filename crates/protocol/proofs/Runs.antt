@@ -138,20 +138,21 @@ module _ (C : Ciphers) (K : Keys) where
 -- ---- openings
 
 -- an opening that was not refused: a known suite, keys that fit, and a fresh session
-record Fresh (side : Side) (n : ℕ) (K : Keys) : Type 0 where
-  suite : Suite
-  fits : keysFit (keyLength suite) K ≡ true
-  is : opening side n K .session ≡ fresh side suite (stored (K .enc)) (stored (K .mac)) (stored (K .rmac))
+pub record Fresh (side : Side) (n : ℕ) (K : Keys) : Type 0 where
+  pub suite : Suite
+  pub fits : keysFit (keyLength suite) K ≡ true
+  pub known : suiteOf n ≡ Known suite
+  pub is : opening side n K .session ≡ fresh side suite (stored (K .enc)) (stored (K .mac)) (stored (K .rmac))
 
 not-done : {r : Refusal} {P : Type 0} → Refused r ≡ Done → P
 not-done e = let z : _≡_ {A = ℕ} 0 1 = cc in let o : ⊥ = omega arith in absurd o
 
-opened : (side : Side) (n : ℕ) (K : Keys) → opening side n K .answer ≡ Done → Fresh side n K
+pub opened : (side : Side) (n : ℕ) (K : Keys) → opening side n K .answer ≡ Done → Fresh side n K
 unfolding opening openSuite
 opened side n K e = go (suiteOf n) refl e
   where
     by : (suite : Suite) (t : Bool) → keysFit (keyLength suite) K ≡ t → suiteOf n ≡ Known suite → openSuite side (Known suite) K .answer ≡ Done → Fresh side n K
-    by suite true f q e = record { suite = suite; fits = f; is = rw (q, f) }
+    by suite true f q e = record { suite = suite; fits = f; known = q; is = rw (q, f) }
     by suite false f q e = not-done (rw f at e)
 
     go : (s : SuiteNumber) → suiteOf n ≡ s → openSuite side s K .answer ≡ Done → Fresh side n K

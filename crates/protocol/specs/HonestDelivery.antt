@@ -8,6 +8,8 @@ use Rattle.octets.specs.Bytes.{Bytes, IsBytes}
 use Rattle.objects.specs.Lengths.{ciphertextLength, commandLength, responseLength}
 use Rattle.session.specs.Session.{keyIn}
 use Rattle.validity.specs.Valid.{countsAsOpen}
+use Rattle.session.specs.Opening.{Keys, opening}
+use Rattle.session.specs.declared.Opening.the-variants.{Opened as Done}
 use Rattle.session.specs.declared.Side.the-variants.{Host, Card}
 use Rattle.session.specs.declared.Phase.{Phase}
 use Rattle.session.specs.declared.Phase.the-variants.{Ready, Pending}
@@ -77,3 +79,10 @@ DeliversResponses C =
     → statusPermitted (m .header) ≡ true → length (m .payload) ≤ maxResponseData → IsBytes (m .payload)
     → responseLength (length (m .payload)) ≤ wrapRoom → ciphertextLength (length (m .payload)) ≤ unwrapRoom
     → ResponseDelivered C h c m wrapRoom unwrapRoom
+
+-- ---- it begins: two openings with the same suite and keys are in step
+
+abbrev pub OpensInStep : Type 0
+OpensInStep =
+    (suite : ℕ) (K : Keys) → opening Host suite K .answer ≡ Done → opening Card suite K .answer ≡ Done
+    → InStep Ready (opening Host suite K .session) (opening Card suite K .session)
