@@ -32,8 +32,8 @@ use Rattle.protocol.specs.Message.{CommandHeader, StatusWord, Message, C
 use Rattle.protocol.specs.Permission.{insPermitted, commandPermitted, statusPermitted, commandWanted, responseWanted}
 use Rattle.protocol.specs.Counter.{commandCounter, responseCounter}
 use Rattle.protocol.specs.Answer.{Answer, refused, gave, require_else_⨾_, _and-then_, Outcome, Out, afterRefusal, concluded, objectsOf, textOf}
-use Rattle.protocol.specs.Command.{wrapCommandChecks, unwrapCommandChecks, CommandGiven, commandMac, commandCiphertext, commandWrapped, headerRead, hostWraps, cardUnwraps}
-use Rattle.protocol.specs.Response.{wrapResponseChecks, unwrapResponseChecks, responseMac, responseCiphertext, responseWrapped, cardWraps, hostUnwraps}
+use Rattle.protocol.specs.Command.{wrapCommandChecks, unwrapCommandChecks, CommandGiven, commandMac, commandCiphertext, commandWrapped, commandAccepted, headerRead, hostWraps, cardUnwraps}
+use Rattle.protocol.specs.Response.{wrapResponseChecks, unwrapResponseChecks, responseMac, responseCiphertext, responseWrapped, responseAccepted, cardWraps, hostUnwraps}
 
 -- ---- stages
 
@@ -173,27 +173,25 @@ may-unwrap-response s sw n u e =
 -- ---- each call
 
 module _ (C : Ciphers) where
-  -- what a refusal leaves
+  -- what a refusal leaves, and what an acceptance leaves
   abbrev pub Refuses : {A : Type 0} → (Out A → Type 0) → Session → Type 0
   Refuses Q s = (r : Refusal) → Q (record { answer = refused r; next = afterRefusal s r })
 
+  abbrev pub done : {A : Type 0} → Outcome A → Out A
+  done o = record { answer = gave (o .gives); next = o .next }
+
   pub host-wraps : (Q : Out Bytes → Type 0) (s : Session) (m : Command) (room : ℕ) → Refuses Q s
-      → (MayWrapCommand s (m .header) (length (m .payload)) room
-      → let full = commandMac C s (m .header) (commandObjects (commandCiphertext C s (m .payload)) (m .header .le)) in
-      Q (record { answer = gave (commandField (commandCiphertext C s (m .payload)) (m .header .le) (take 8 full)); next = commandTaken s full }))
+      → (MayWrapCommand s (m .header) (length (m .payload)) room → Q (done (commandWrapped C s (m .header) (commandCiphertext C s (m .payload)))))
       → Q (hostWraps C s m room)
-  unfolding hostWraps concluded commandWrapped
+  unfolding hostWraps concluded
   host-wraps Q s m room stop go =
       then-case (λ (a : Answer (Outcome Bytes)). Q (concluded s a)) (wrapCommandChecks s (m .header) (length (m .payload)) room) _ (λ r e. stop r)
       (λ u e. go (may-wrap-command s (m .header) (length (m .payload)) room u e))
 
   pub card-wraps : (Q : Out Bytes → Type 0) (s : Session) (m : Response) (room : ℕ) → Refuses Q s
-      → (MayWrapResponse s (m .header) (length (m .payload)) room
-      → let c = responseCiphertext C s (m .payload) in
-      let full = responseMac C s (responseObjects c (m .header .sw1) (m .header .sw2)) in
-      Q (record { answer = gave (responseField c (m .header .sw1) (m .header .sw2) (take 8 full)); next = responseTaken s full }))
+      → (MayWrapResponse s (m .header) (length (m .payload)) room → Q (done (responseWrapped C s (m .header) (responseCiphertext C s (m .payload)))))
       → Q (cardWraps C s m room)
-  unfolding cardWraps concluded responseWrapped
+  unfolding cardWraps concluded
   card-wraps Q s m room stop go =
       then-case (λ (a : Answer (Outcome Bytes)). Q (concluded s a)) (wrapResponseChecks s (m .header) (length (m .payload)) room) _ (λ r e. stop r)
       (λ u e. go (may-wrap-response s (m .header) (length (m .payload)) room u e))
@@ -207,11 +205,7 @@ module _ (C : Ciphers) where
     pub text : C .decrypt (keyIn (s .suite) (s .«sk_enc»)) (commandCounter (s .count + 1)) (ciphertextOf field o) ≡ some d
 
   pub card-unwraps : (Q : Out CommandGiven → Type 0) (s : Session) (ins p1 p2 : ℕ) (field : Bytes) (room : ℕ) → Refuses Q s
-      → ((o : Objects) (d : Bytes) → CommandRead s ins p1 p2 field room o d
-      → Q (record {
-        answer = gave (record { payload = d; le = o .second });
-        next = commandTaken s (commandMac C s (headerRead C ins p1 p2 o) (coveredOf field o));
-      }))
+      → ((o : Objects) (d : Bytes) → CommandRead s ins p1 p2 field room o d → Q (done (commandAccepted C s ins p1 p2 field o d)))
       → Q (cardUnwraps C s ins p1 p2 field room)
   unfolding cardUnwraps concluded
   card-unwraps Q s ins p1 p2 field room stop go =
@@ -237,8 +231,7 @@ module _ (C : Ciphers) where
     pub text : C .decrypt (keyIn (s .suite) (s .«sk_enc»)) (responseCounter (s .count)) (ciphertextOf field o) ≡ some d
 
   pub host-unwraps : (Q : Out Response → Type 0) (s : Session) (sw : StatusWord) (field : Bytes) (room : ℕ) → Refuses Q s
-      → ((o : Objects) (d : Bytes) → ResponseRead s sw field room o d
-      → Q (record { answer = gave (record { header = sw; payload = d }); next = responseTaken s (responseMac C s (coveredOf field o)) }))
+      → ((o : Objects) (d : Bytes) → ResponseRead s sw field room o d → Q (done (responseAccepted C s sw field o d)))
       → Q (hostUnwraps C s sw field room)
   unfolding hostUnwraps concluded
   host-unwraps Q s sw field room stop go =

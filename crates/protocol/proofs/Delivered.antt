@@ -39,8 +39,8 @@ use Rattle.protocol.specs.Message.{CommandHeader, StatusWord, Message, C
 use Rattle.protocol.specs.Permission.{insPermitted, dataNeed, leNeed, commandPermitted, statusPermitted, commandWanted, responseWanted}
 use Rattle.protocol.specs.Counter.{commandCounter, responseCounter}
 use Rattle.protocol.specs.Answer.{Answer, refused, gave, require_else_⨾_, _and-then_, Outcome, Out, concluded, objectsOf, textOf}
-use Rattle.protocol.specs.Command.{CommandGiven, wrapCommandChecks, unwrapCommandChecks, commandInput, commandMac, commandCiphertext, commandWrapped, headerRead, hostWraps, cardUnwraps}
-use Rattle.protocol.specs.Response.{wrapResponseChecks, unwrapResponseChecks, responseMac, responseCiphertext, responseWrapped, cardWraps, hostUnwraps}
+use Rattle.protocol.specs.Command.{CommandGiven, wrapCommandChecks, unwrapCommandChecks, commandInput, commandMac, commandCiphertext, commandWrapped, commandAccepted, headerRead, hostWraps, cardUnwraps}
+use Rattle.protocol.specs.Response.{wrapResponseChecks, unwrapResponseChecks, responseMac, responseCiphertext, responseWrapped, responseAccepted, cardWraps, hostUnwraps}
 use Rattle.protocol.specs.HonestDelivery.{InStep, Keyed, CommandDelivered, DeliversCommands, ResponseDelivered, DeliversResponses, OpensInStep}
 use Rattle.validity.proofs.KeepsTheRules.{opening-served, command-served, response-served}
 use Rattle.protocol.proofs.Channel.{command-lawful, response-lawful}
@@ -201,7 +201,7 @@ module _ (C : Ciphers) (L : Laws C) (h c : Session) (m : Command) (wrapRoom unwr
 
   unwraps : cardUnwraps C c (m .header .ins) (m .header .p1) (m .header .p2) field unwrapRoom
       ≡ record { answer = gave (record { payload = m .payload; le = m .header .le }); next = commandTaken c full }
-  unfolding cardUnwraps concluded _and-then_ objectsOf textOf require_else_⨾_
+  unfolding cardUnwraps commandAccepted concluded _and-then_ objectsOf textOf require_else_⨾_
   unwraps =
       rw (
         unwrap-checks,
@@ -223,21 +223,21 @@ module _ (C : Ciphers) (L : Laws C) (h c : Session) (m : Command) (wrapRoom unwr
         wraps = wraps;
         unwraps = unwraps;
         again =
-          record {
-            host-open = command-served h full (step .host-open) (step .host-phase) counted;
-            card-open = command-served c full (step .card-open) (step .card-phase) (omega (arith, step .counts, counted));
-            host-side = step .host-side;
-            card-side = step .card-side;
-            host-phase = refl;
-            card-phase = refl;
-            suites = step .suites;
-            counts = ap (λ (i : ℕ). i + 1) (step .counts);
-            encs = step .encs;
-            macs = step .macs;
-            rmacs = step .rmacs;
-            command-mcvs = refl;
-            response-mcvs = step .response-mcvs;
-          };
+            record {
+              host-open = command-served h full (step .host-open) (step .host-phase) counted;
+              card-open = command-served c full (step .card-open) (step .card-phase) (omega (arith, step .counts, counted));
+              host-side = step .host-side;
+              card-side = step .card-side;
+              host-phase = refl;
+              card-phase = refl;
+              suites = step .suites;
+              counts = ap (λ (i : ℕ). i + 1) (step .counts);
+              encs = step .encs;
+              macs = step .macs;
+              rmacs = step .rmacs;
+              command-mcvs = refl;
+              response-mcvs = step .response-mcvs;
+            };
       }
 
 -- ---- a response
@@ -330,7 +330,7 @@ module _ (C : Ciphers) (L : Laws C) (h c : Session) (m : Response) (wrapRoom unw
       (response-lawful (record { enc = []; mac = []; rmac = [] }) .counter-is (h .count)) bytes
 
   response-unwraps : hostUnwraps C h (m .header) sent unwrapRoom ≡ record { answer = gave m; next = responseTaken h whole }
-  unfolding hostUnwraps concluded _and-then_ objectsOf textOf require_else_⨾_
+  unfolding hostUnwraps responseAccepted concluded _and-then_ objectsOf textOf require_else_⨾_
   response-unwraps =
       rw (
         response-unwrap-checks,
@@ -351,21 +351,21 @@ module _ (C : Ciphers) (L : Laws C) (h c : Session) (m : Response) (wrapRoom unw
         wraps = response-wraps;
         unwraps = response-unwraps;
         again =
-          record {
-            host-open = response-served h whole (step .host-open) (step .host-phase);
-            card-open = response-served c whole (step .card-open) (step .card-phase);
-            host-side = step .host-side;
-            card-side = step .card-side;
-            host-phase = refl;
-            card-phase = refl;
-            suites = step .suites;
-            counts = step .counts;
-            encs = step .encs;
-            macs = step .macs;
-            rmacs = step .rmacs;
-            command-mcvs = step .command-mcvs;
-            response-mcvs = refl;
-          };
+            record {
+              host-open = response-served h whole (step .host-open) (step .host-phase);
+              card-open = response-served c whole (step .card-open) (step .card-phase);
+              host-side = step .host-side;
+              card-side = step .card-side;
+              host-phase = refl;
+              card-phase = refl;
+              suites = step .suites;
+              counts = step .counts;
+              encs = step .encs;
+              macs = step .macs;
+              rmacs = step .rmacs;
+              command-mcvs = step .command-mcvs;
+              response-mcvs = refl;
+            };
       }
 
 pub delivers-commands : (C : Ciphers) → Laws C → DeliversCommands C

@@ -1,18 +1,19 @@
 -- Runs that the checker computes, with ciphers small enough to be computed: an honest run of two exchanges agrees and is not
 -- excepted; with a MAC that is always zeros, one run breaks each part of the claim.
 -- Assumes nothing.
-use mathlib.Core.Path.{_≡_, refl, sym, ap, _∙_}
+use mathlib.Core.Path.{_≡_, refl, sym, ap, ap₂, _∙_}
 use mathlib.Core.Logic.{_⊎_, inl, inr}
 use mathlib.Core.Bool.{Bool, true, false, _&&_, _||_, not}
-use mathlib.Core.List.{List, [], _∷_, _++_, foldr, List·Memᴰ, List·Memᴰ·head, List·Memᴰ·tail}
+use mathlib.Core.List.{List, [], _∷_, _++_, foldr, map, List·Memᴰ, List·Memᴰ·head, List·Memᴰ·tail, List·Memᴰ·not-nil}
 use mathlib.Core.Option.{Option, none, some}
 use Prim.Native.Nat.{ℕ, zero, suc, _+_, _*_, _/_, _%_, _<_}
 use native.Mathlib.Omega.{arith}
 use borrow.Author.Tests.{eqb-true, eqb-false, ne-eqb}
 use lib.Dec.{eqb}
-use lib.ListN.{length, replicate, getD}
-use Rattle.octets.specs.Bytes.{Bytes, IsBytes, zeros}
+use lib.ListN.{length, replicate, getD, take, length-map}
+use Rattle.octets.specs.Bytes.{Bytes, IsBytes, zeros, _⊕_}
 use Rattle.octets.specs.Choice.{if_then_else_}
+use Rattle.octets.proofs.Xor.{xor-undo}
 use Rattle.compare.specs.Same.{same}
 use Rattle.compare.proofs.SameBytes.{same-eq, same-self}
 use Rattle.padding.specs.Padding.{padding, pad, paddedLength, marked, markBefore, unpad}
@@ -35,8 +36,8 @@ use Rattle.protocol.specs.Message.{Message, Command, Response}
 use Rattle.protocol.specs.Permission.{insPermitted, leNeed, dataNeed, commandPermitted, statusPermitted, commandWanted, responseWanted}
 use Rattle.protocol.specs.Counter.{bigEndian, commandCounter, responseCounter}
 use Rattle.protocol.specs.Answer.{Answer, refused, gave, require_else_⨾_, _and-then_, afterRefusal, concluded, objectsOf, textOf}
-use Rattle.protocol.specs.Command.{commandInput, wrapCommandChecks, unwrapCommandChecks, commandMac, commandCiphertext, commandWrapped, hostWraps, cardUnwraps}
-use Rattle.protocol.specs.Response.{wrapResponseChecks, unwrapResponseChecks, responseMac, responseCiphertext, responseWrapped, cardWraps, hostUnwraps}
+use Rattle.protocol.specs.Command.{commandInput, wrapCommandChecks, unwrapCommandChecks, commandMac, commandCiphertext, commandWrapped, commandAccepted, hostWraps, cardUnwraps}
+use Rattle.protocol.specs.Response.{wrapResponseChecks, unwrapResponseChecks, responseMac, responseCiphertext, responseWrapped, responseAccepted, cardWraps, hostUnwraps}
 use Rattle.protocol.specs.Transcript.{Call, wrapCommand, unwrapCommand, wrapResponse, unwrapResponse, close, messages, inputs, Transcript, lastMac, chaining, encrypted, wrapped, received, acceptedCommand, acceptedResponse, noted, entered, State, moved, does, step, run, start}
 use Rattle.protocol.specs.Agreement.{Agrees, chainingValues, Collision, MacBreak, Excepted}
 use Rattle.protocol.proofs.CallCases.{both}
@@ -46,11 +47,15 @@ use Rattle.protocol.proofs.CallCases.{both}
 toyMac : Bytes → Bytes → Bytes
 toyMac k m = let h = foldr (λ x a. (a * 31 + x + 7) % 65521) 1 (k ++ m) in h % 256 ∷ h / 256 ∷ zeros 14
 
+-- the padded data, each byte xored with the counter's last
+xorAll : ℕ → Bytes → Bytes
+xorAll b xs = map (λ x. x ⊕ b) xs
+
 toyEncrypt : Bytes → Bytes → Bytes → Bytes
-toyEncrypt k n d = if eqb (length d) 0 then [] else pad d
+toyEncrypt k n d = if eqb (length d) 0 then [] else xorAll (getD n 15 0) (pad d)
 
 toyDecrypt : Bytes → Bytes → Bytes → Option Bytes
-toyDecrypt k n c = if eqb (length c) 0 then some [] else dataIn c (unpad c)
+toyDecrypt k n c = if eqb (length c) 0 then some [] else dataIn (xorAll (getD n 15 0) c) (unpad (xorAll (getD n 15 0) c))
 
 toy : Ciphers
 toy = record { mac = toyMac; encrypt = toyEncrypt; decrypt = toyDecrypt }
@@ -59,28 +64,37 @@ no-data : (d : Bytes) → length d ≡ 0 → d ≡ []
 no-data [] e = refl
 no-data (b ∷ d) e = let z : ⊥ = omega (arith, e) in absurd z
 
-toy-length : (d : Bytes) → length (toyEncrypt [] [] d) ≡ ciphertextLength (length d)
-unfolding toyEncrypt ciphertextLength
-toy-length d = go (eqb (length d) 0)
-  where
-    go : (t : Bool) → length (if t then [] else pad d) ≡ (if t then 0 else paddedLength (length d))
-    go true = refl
-    go false = length-pad d
+xor-undone : (b : ℕ) (xs : Bytes) → xorAll b (xorAll b xs) ≡ xs
+unfolding xorAll
+xor-undone b [] = refl
+xor-undone b (x ∷ xs) = ap₂ (λ (y : ℕ) (ys : Bytes). y ∷ ys) (xor-undo x b) (xor-undone b xs)
 
-toy-undone : (d : Bytes) → toyDecrypt [] [] (toyEncrypt [] [] d) ≡ some d
-unfolding toyEncrypt toyDecrypt paddedLength
-toy-undone d = go (eqb (length d) 0) refl
+length-xorAll : (b : ℕ) (xs : Bytes) → length (xorAll b xs) ≡ length xs
+unfolding xorAll
+length-xorAll b xs = length-map xs (λ x. x ⊕ b)
+
+toy-length : (n d : Bytes) → length (toyEncrypt [] n d) ≡ ciphertextLength (length d)
+unfolding toyEncrypt ciphertextLength
+toy-length n d = go (eqb (length d) 0)
   where
-    go : (t : Bool) → eqb (length d) 0 ≡ t → toyDecrypt [] [] (if t then [] else pad d) ≡ some d
+    go : (t : Bool) → length (if t then [] else xorAll (getD n 15 0) (pad d)) ≡ (if t then 0 else paddedLength (length d))
+    go true = refl
+    go false = length-xorAll (getD n 15 0) (pad d) ∙ length-pad d
+
+toy-undone : (n d : Bytes) → toyDecrypt [] n (toyEncrypt [] n d) ≡ some d
+unfolding toyEncrypt toyDecrypt paddedLength
+toy-undone n d = go (eqb (length d) 0) refl
+  where
+    go : (t : Bool) → eqb (length d) 0 ≡ t → toyDecrypt [] n (if t then [] else xorAll (getD n 15 0) (pad d)) ≡ some d
     go true e = ap some (sym (no-data d (eqb-true (length d) 0 e)))
     go false e =
         let f : length d ≡ 0 → ⊥ = eqb-false (length d) 0 e in
-        let g : length (pad d) ≡ 0 → ⊥ = λ z. omega (arith, length-pad d, z) in
-        rw (ne-eqb (length (pad d)) 0 g) (data-padded d (omega (arith, f)))
+        let g : length (xorAll (getD n 15 0) (pad d)) ≡ 0 → ⊥ = λ z. omega (arith, length-pad d, length-xorAll (getD n 15 0) (pad d), z) in
+        rw (ne-eqb (length (xorAll (getD n 15 0) (pad d))) 0 g, xor-undone (getD n 15 0) (pad d)) (data-padded d (omega (arith, f)))
 
 toy-laws : Laws toy
 unfolding toy toyMac toyEncrypt toyDecrypt
-toy-laws = record { mac-length = λ k m key. refl; encrypt-length = λ k n d key c y. toy-length d; decrypt-encrypt = λ k n d key c y. toy-undone d }
+toy-laws = record { mac-length = λ k m key. refl; encrypt-length = λ k n d key c y. toy-length n d; decrypt-encrypt = λ k n d key c y. toy-undone n d }
 
 -- a MAC that is always zeros
 flat : Ciphers
@@ -175,7 +189,7 @@ sound C key sent input mac b m d =
 -- ---- runs with a MAC that is always zeros, one for each part of the claim
 
 forged : Command → Bytes
-forged m = commandField (toyEncrypt [] [] (m .payload)) (m .header .le) (zeros 8)
+forged m = commandField (toyEncrypt [] (commandCounter 1) (m .payload)) (m .header .le) (zeros 8)
 
 received-as : Command → Command → Call
 received-as m n = unwrapCommand Card (n .header .ins) (n .header .p1) (n .header .p2) (forged m) 3000
@@ -214,6 +228,24 @@ status-changed =
     wrapCommand Host verify 3000 ∷ received-as verify verify ∷ wrapResponse Card okay 3000
     ∷ unwrapResponse Host (record { sw1 = 0x6A; sw2 = 0x82 }) (responseField [] 0x6A 0x82 (zeros 8)) 3000 ∷ []
 
+-- one command wrapped, and no more
+one-wrapped : List Call
+one-wrapped = wrapCommand Host verify 3000 ∷ []
+
+-- with the keys known, a command that was never wrapped: its MAC is right
+never-wrapped : List Call
+never-wrapped =
+    let c = toyEncrypt [] (commandCounter 1) (verify .payload) in
+    let full = toyMac (keys .mac) (commandInput (zeros 16) (verify .header) (commandObjects c false)) in
+    unwrapCommand Card 0x20 0x00 0x98 (commandField c false (take 8 full)) 3000 ∷ []
+
+-- a VERIFY without data, accepted twice: under the constant MAC the second input is the first
+check : Command
+check = record { header = record { ins = 0x20; p1 = 0x00; p2 = 0x98; le = false }; payload = [] }
+
+repeated : List Call
+repeated = wrapCommand Host check 3000 ∷ received-as check check ∷ wrapResponse Card okay 3000 ∷ received-as check check ∷ []
+
 abbrev Broken : List Call → Type 0
 Broken calls = Agrees flat keys (run flat keys begin calls .transcript) → ⊥
 
@@ -248,9 +280,13 @@ record Computed : Type 0 where
   data-differs : Broken data-changed
   le-differs : Broken le-changed
   status-differs : Broken status-changed
+  -- w above r, and the two causes of an exception
+  w-above-r : Agrees toy keys (run toy keys begin one-wrapped .transcript)
+  new-input : Excepted toy keys begin never-wrapped
+  same-chaining-value : Excepted flat keys begin repeated
 
 computed : Computed
-unfolding toyMac toyEncrypt toyDecrypt toy keys verify getData okay certificate fieldOf begin exchange two counts same padding pad paddedLength marked markBefore unpad lengthField readLength isShortest rank allowed rightSize rightSecond rightValue need_else_⨾_ withLength readObject notedObject ended onObject walk readField object encryptedData leObject statusWord macObject commandObjects responseObjects commandField responseField ciphertextLength encryptedDataLength commandLength responseLength encodedHeader commandMacInput responseMacInput allZero keysEnd keysZero mcvsZero keepsPhase valid countsAsOpen isTurn keysFit openSuite opening dataIn insPermitted leNeed dataNeed commandPermitted statusPermitted commandWanted responseWanted bigEndian commandCounter responseCounter require_else_⨾_ _and-then_ afterRefusal concluded objectsOf textOf commandInput wrapCommandChecks unwrapCommandChecks commandMac commandCiphertext commandWrapped hostWraps cardUnwraps wrapResponseChecks unwrapResponseChecks responseMac responseCiphertext responseWrapped cardWraps hostUnwraps lastMac chaining encrypted wrapped received acceptedCommand acceptedResponse noted entered moved does step run flat among distinct chainingValues forged received-as other-header other-data authenticate with-le more-commands more-responses header-changed data-changed le-changed status-changed p2Of sizeOf leOf sw1Of
+unfolding toyMac xorAll toyEncrypt toyDecrypt toy keys verify getData okay certificate fieldOf begin exchange two counts same padding pad paddedLength marked markBefore unpad lengthField readLength isShortest rank allowed rightSize rightSecond rightValue need_else_⨾_ withLength readObject notedObject ended onObject walk readField object encryptedData leObject statusWord macObject commandObjects responseObjects commandField responseField ciphertextLength encryptedDataLength commandLength responseLength encodedHeader commandMacInput responseMacInput allZero keysEnd keysZero mcvsZero keepsPhase valid countsAsOpen isTurn keysFit openSuite opening dataIn insPermitted leNeed dataNeed commandPermitted statusPermitted commandWanted responseWanted bigEndian commandCounter responseCounter require_else_⨾_ _and-then_ afterRefusal concluded objectsOf textOf commandInput wrapCommandChecks unwrapCommandChecks commandMac commandCiphertext commandWrapped commandAccepted hostWraps cardUnwraps wrapResponseChecks unwrapResponseChecks responseMac responseCiphertext responseWrapped responseAccepted cardWraps hostUnwraps lastMac chaining encrypted wrapped received acceptedCommand acceptedResponse noted entered moved does step run flat among distinct chainingValues forged received-as other-header other-data authenticate with-le more-commands more-responses header-changed data-changed le-changed status-changed one-wrapped never-wrapped check repeated p2Of sizeOf leOf sw1Of
 computed =
     record {
       counted = refl;
@@ -263,6 +299,19 @@ computed =
       data-differs = λ v. let e : _≡_ {A = ℕ} 1 3 = ap sizeOf (v .commandsAgree) in omega (arith, e);
       le-differs = λ v. let e : _≡_ {A = ℕ} 1 0 = ap leOf (v .commandsAgree) in omega (arith, e);
       status-differs = λ v. let e : _≡_ {A = ℕ} 0x6A 0x90 = ap sw1Of (v .responsesAgree) in omega (arith, e);
+      w-above-r =
+          record {
+            r≤s = omega arith;
+            s≤a = omega arith;
+            a≤w = omega arith;
+            w≤r+1 = omega arith;
+            commandsAgree = refl;
+            responsesAgree = refl;
+            commandsWritten = (refl, tt);
+            responsesWritten = tt;
+          };
+      new-input = inl (record { right = refl; cause = inl (λ m. List·Memᴰ·not-nil m) });
+      same-chaining-value = inr (inr (inr (inl (record { right = refl; cause = inr (record { i = 0; j = 1; i<j = omega arith; within = omega arith; equal = refl }) }))));
     }
   where
     never : Excepted toy keys begin (two toy) → ⊥

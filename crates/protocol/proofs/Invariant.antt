@@ -40,8 +40,8 @@ use Rattle.protocol.specs.Message.{CommandHeader, StatusWord, Message, C
 use Rattle.protocol.specs.Permission.{commandWanted, responseWanted}
 use Rattle.protocol.specs.Counter.{commandCounter, responseCounter}
 use Rattle.protocol.specs.Answer.{Answer, refused, gave, Out, afterRefusal}
-use Rattle.protocol.specs.Command.{CommandGiven, commandInput, commandMac, commandCiphertext, headerRead, hostWraps, cardUnwraps}
-use Rattle.protocol.specs.Response.{responseMac, responseCiphertext, cardWraps, hostUnwraps}
+use Rattle.protocol.specs.Command.{CommandGiven, commandInput, commandMac, commandCiphertext, commandWrapped, commandAccepted, headerRead}
+use Rattle.protocol.specs.Response.{responseMac, responseCiphertext, responseWrapped, responseAccepted}
 use Rattle.protocol.specs.Transcript.{Call, wrapCommand, unwrapCommand, wrapResponse, unwrapResponse, close, sideOf, Gives, does, Entry, inputs, Transcript, Direction, commands, responses, chaining, encrypted, wrapped, received, commandRead, responseRead, acceptedCommand, acceptedResponse, noted, entered, State, sessionAt, moved, step}
 use Rattle.protocol.specs.Agreement.{Written, Collision, MacBreak, Breaks, BreaksIn, CallBytes}
 use Rattle.protocol.proofs.Logs.{append-cut, chaining-snoc}
@@ -206,10 +206,9 @@ module _ (C : Ciphers) (K : Keys) where
         ap₂ (λ (k mcv : Bytes). C .mac k (commandInput mcv (m .header) (commandObjects (commandCiphertext C h (m .payload)) (m .header .le)))) (host .mac-is) (host .command-is)
         ∙ ap (λ (x : Bytes). C .mac (K .mac) (commandInput (chaining C (K .mac) (t .commandsWrapped)) (m .header) (commandObjects x (m .header .le)))) command-encrypted
 
-    pub command-wrapped : Inv (commandTaken h (commandMac C h (m .header) (commandObjects (commandCiphertext C h (m .payload)) (m .header .le)))) c
-        (noted C K t (wrapCommand Host m room)
-        (commandField (commandCiphertext C h (m .payload)) (m .header .le) (take 8 (commandMac C h (m .header) (commandObjects (commandCiphertext C h (m .payload)) (m .header .le))))))
-    unfolding noted wrapped
+    pub command-wrapped : let o = commandWrapped C h (m .header) (commandCiphertext C h (m .payload)) in
+        Inv (o .next) c (noted C K t (wrapCommand Host m room) (o .gives))
+    unfolding noted wrapped commandWrapped
     command-wrapped =
         let r : h .phase ≡ Ready = turn-is Host Ready h (may .turn) .1 in
         let n : length (t .commandsWrapped) ≡ length (t .responsesAccepted) = host .ready-is r in
@@ -249,11 +248,9 @@ module _ (C : Ciphers) (K : Keys) where
         ap₂ (λ (k mcv : Bytes). C .mac k (responseMacInput mcv (responseObjects (responseCiphertext C c (m .payload)) (m .header .sw1) (m .header .sw2)))) (card .rmac-is) (card .response-is)
         ∙ ap (λ (z : Bytes). C .mac (K .rmac) (responseMacInput (chaining C (K .rmac) (t .responsesWrapped)) (responseObjects z (m .header .sw1) (m .header .sw2)))) response-encrypted
 
-    pub response-wrapped : Inv h (responseTaken c (responseMac C c (responseObjects (responseCiphertext C c (m .payload)) (m .header .sw1) (m .header .sw2))))
-        (noted C K t (wrapResponse Card m room)
-        (responseField (responseCiphertext C c (m .payload)) (m .header .sw1) (m .header .sw2)
-        (take 8 (responseMac C c (responseObjects (responseCiphertext C c (m .payload)) (m .header .sw1) (m .header .sw2))))))
-    unfolding noted wrapped
+    pub response-wrapped : let o = responseWrapped C c (m .header) (responseCiphertext C c (m .payload)) in
+        Inv h (o .next) (noted C K t (wrapResponse Card m room) (o .gives))
+    unfolding noted wrapped responseWrapped
     response-wrapped =
         record {
           host-is = v .host-is;
@@ -312,9 +309,9 @@ module _ (C : Ciphers) (K : Keys) where
           input = commandInput (chaining C (K .mac) A) (headerRead C ins p1 p2 q) (coveredOf field q);
         }) (objects-read ins field o (read .read))
 
-    pub command-accepted : Inv h (commandTaken c (commandMac C c (headerRead C ins p1 p2 o) (coveredOf field o))) (noted C K t (unwrapCommand Card ins p1 p2 field room) g)
-        ⊎ Breaks C K t (unwrapCommand Card ins p1 p2 field room) g
-    unfolding noted
+    pub command-accepted : let a = commandAccepted C c ins p1 p2 field o d in
+        Inv h (a .next) (noted C K t (unwrapCommand Card ins p1 p2 field room) (a .gives)) ⊎ Breaks C K t (unwrapCommand Card ins p1 p2 field room) (a .gives)
+    unfolding noted commandAccepted
     command-accepted =
         go (channel-accepted C (K .enc) (commands K) L (command-lawful K) (G .mac) (G .enc) A (t .commandsWrapped) m (ciphertextOf field o) (coveredOf field o)
         (v .command-channel) (λ h c blocks q. command-same (chaining C (K .mac) A) ins p1 p2 field o (read .read) C h c blocks q) accepted-text)
@@ -371,9 +368,9 @@ module _ (C : Ciphers) (K : Keys) where
     response-entry =
         ap (λ (q : Objects). record { message = a; input = responseMacInput (chaining C (K .rmac) R) (coveredOf field q) }) (status-read sw field o (read .read))
 
-    pub response-accepted : Inv (responseTaken h (responseMac C h (coveredOf field o))) c (noted C K t (unwrapResponse Host sw field room) a)
-        ⊎ Breaks C K t (unwrapResponse Host sw field room) a
-    unfolding noted
+    pub response-accepted : let u = responseAccepted C h sw field o d in
+        Inv (u .next) c (noted C K t (unwrapResponse Host sw field room) (u .gives)) ⊎ Breaks C K t (unwrapResponse Host sw field room) (u .gives)
+    unfolding noted responseAccepted
     response-accepted =
         go (channel-accepted C (K .enc) (responses K) L (response-lawful K) (G .rmac) (G .enc) R (t .responsesWrapped) a (ciphertextOf field o) (coveredOf field o)
         (v .response-channel) (λ u c blocks q. response-same (chaining C (K .rmac) R) sw field o (read .read) u c blocks q) response-text)

@@ -79,6 +79,14 @@ module _ (C : Ciphers) where
   abbrev pub headerRead : ℕ → ℕ → ℕ → Objects → CommandHeader
   headerRead ins p1 p2 o = record { ins = ins; p1 = p1; p2 = p2; le = o .second }
 
+  -- an accepted command: data and Le, and all 16 bytes of the MAC that was computed as the next chaining value
+  unfoldable pub commandAccepted : Session → ℕ → ℕ → ℕ → Bytes → Objects → Bytes → Outcome CommandGiven
+  commandAccepted s ins p1 p2 field o d =
+      record {
+        gives = record { payload = d; le = o .second };
+        next = commandTaken s (commandMac s (headerRead ins p1 p2 o) (coveredOf field o));
+      }
+
   unfoldable pub cardUnwraps : Session → ℕ → ℕ → ℕ → Bytes → ℕ → Out CommandGiven
   cardUnwraps s ins p1 p2 field room =
       concluded s (
@@ -87,8 +95,5 @@ module _ (C : Ciphers) where
       require leb (o .«ciphertext_len») room else BufferTooSmall (o .«ciphertext_len») ⨾
       require same (macOf field o) (take 8 (commandMac s (headerRead ins p1 p2 o) (coveredOf field o))) else BadMac ⨾
       textOf (C .decrypt (keyIn (s .suite) (s .«sk_enc»)) (commandCounter (s .count + 1)) (ciphertextOf field o)) and-then (λ d.
-      gave (record {
-        gives = record { payload = d; le = o .second };
-        next = commandTaken s (commandMac s (headerRead ins p1 p2 o) (coveredOf field o));
-      }))))
+      gave (commandAccepted s ins p1 p2 field o d))))
       )

@@ -63,6 +63,10 @@ module _ (C : Ciphers) where
       gave (responseWrapped s (m .header) (responseCiphertext s (m .payload))))
       )
 
+  unfoldable pub responseAccepted : Session → StatusWord → Bytes → Objects → Bytes → Outcome Response
+  responseAccepted s sw field o d =
+      record { gives = record { header = sw; payload = d }; next = responseTaken s (responseMac s (coveredOf field o)) }
+
   unfoldable pub hostUnwraps : Session → StatusWord → Bytes → ℕ → Out Response
   hostUnwraps s sw field room =
       concluded s (
@@ -71,5 +75,5 @@ module _ (C : Ciphers) where
       require leb (o .«ciphertext_len») room else BufferTooSmall (o .«ciphertext_len») ⨾
       require same (macOf field o) (take 8 (responseMac s (coveredOf field o))) else BadMac ⨾
       textOf (C .decrypt (keyIn (s .suite) (s .«sk_enc»)) (responseCounter (s .count)) (ciphertextOf field o)) and-then (λ d.
-      gave (record { gives = record { header = sw; payload = d }; next = responseTaken s (responseMac s (coveredOf field o)) }))))
+      gave (responseAccepted s sw field o d))))
       )
