@@ -10,6 +10,7 @@ use borrow.Author.Tests.{eq-eqb, ne-eqb, lt-ltb, le-ltb, eqb-true, ltb-true, not
 use lib.Dec.{eqb, ltb}
 use lib.ListN.{length, getD, take, drop}
 use lib.Seq.{getD-take, length-take-le, take-take, take-add, drop-at}
+use Rattle.octets.proofs.Conjunction.{both}
 use Rattle.octets.specs.Bytes.{Bytes}
 use Rattle.octets.specs.Choice.{if_then_else_}
 use Rattle.tlv.specs.Length.{readLength}
@@ -137,10 +138,6 @@ module _ (w : Wanted) (tag : ℕ) (e : tag ≡ tagOf (w .second)) where
   pub second-value : (xs : Bytes) (at : ℕ) → rightValue w tag xs at ≡ true → rightSecond (w .second) xs at ≡ true
   unfolding rightValue
   second-value xs at f = rw (other 0x87 (not-data (w .second)), other 0x8E (not-mac (w .second))) at f
-
-pub both : (a b : Bool) → (a && b) ≡ true → (a ≡ true) × (b ≡ true)
-both true b e = (refl, e)
-both false b e = let z : _≡_ {A = ℕ} 0 1 = cc in let n : ⊥ = omega arith in absurd n
 
 pub status-value : (second : Second) (sw1 sw2 : ℕ) → second ≡ Status sw1 sw2 → (xs : Bytes) (at : ℕ) → rightSecond second xs at ≡ true
     → (getD xs at 0 ≡ sw1) × (getD xs (at + 1) 0 ≡ sw2)

@@ -12,6 +12,7 @@ use borrow.Author.Tests.{eq-eqb, ne-eqb, lt-ltb, le-ltb, eqb-true, leb-true, ltb
 use lib.Dec.{eqb, ltb, leb}
 use lib.ListN.{length, getD, take, drop, length-drop}
 use lib.Seq.{length-take-le, take-add, drop-cons, drop-drop}
+use Rattle.octets.proofs.Conjunction.{both}
 use Rattle.octets.specs.Bytes.{Bytes, IsBytes}
 use Rattle.octets.specs.Choice.{if_then_else_}
 use Rattle.tlv.specs.Length.{lengthField}
@@ -27,7 +28,7 @@ use Rattle.fields.specs.declared.DataObject.{DataObject}
 use Rattle.fields.specs.declared.Objects.{Objects}
 use Rattle.fields.specs.declared.FieldRead.the-variants.{Read}
 use Rattle.field_laws.proofs.Acceptance.{Part, Optional, Tail, Accepted}
-use Rattle.field_laws.proofs.Determined.{tag-of, next-of, some-of, second-size, second-value, status-value, both, parts, inside, left, last, cut, second-there, status-there, data-start-of, data-length-of, data-noted, optional-behind}
+use Rattle.field_laws.proofs.Determined.{tag-of, next-of, some-of, second-size, second-value, status-value, parts, inside, left, last, cut, second-there, status-there, data-start-of, data-length-of, data-noted, optional-behind}
 
 -- one byte more
 next-byte : (xs : Bytes) (i k : ℕ) → i < length xs → take (suc k) (drop i xs) ≡ getD xs i 0 ∷ take k (drop (i + 1) xs)

@@ -7,6 +7,7 @@ use native.Mathlib.Omega.{arith}
 use borrow.Author.Tests.{eqb-true, leb-true, leb-false, ltb-true}
 use lib.Dec.{eqb, leb, ltb, lit≤}
 use lib.ListN.{length, getD}
+use Rattle.octets.proofs.Conjunction.{both}
 use Rattle.octets.specs.Bytes.{Bytes}
 use Rattle.octets.specs.Choice.{if_then_else_}
 use Rattle.tlv.specs.Length.{readLength, isShortest}
@@ -80,15 +81,11 @@ module _ (w : Wanted) (r : ℕ) (xs : Bytes) (at : ℕ) (d : DataObject) (e : re
 
 -- ---- places and sizes
 
-both-true : (a b : Bool) → (a && b) ≡ true → a ≡ true
-both-true true b e = refl
-both-true false b e = e
-
 pub later : (w : Wanted) (r tag : ℕ) → allowed w r tag ≡ true → r < rank (w .second) tag
 unfolding allowed
 later w r tag e =
     ltb-true r (rank (w .second) tag)
-    (both-true (ltb r (rank (w .second) tag)) (if eqb tag 0x87 then may (w .«data») else if eqb tag 0x8E then true else may (needOf (w .second))) e)
+    (both (ltb r (rank (w .second) tag)) (if eqb tag 0x87 then may (w .«data») else if eqb tag 0x8E then true else may (needOf (w .second))) e .0)
 
 pub rank-most : (second : Second) (tag : ℕ) → rank second tag ≤ 3
 unfolding rank
@@ -113,7 +110,7 @@ some-byte w tag n e = go (eqb tag 0x87) (eqb tag 0x8E) e
         omega (
           arith,
           leb-true 17 n
-              (both-true (leb 17 n) (eqb ((n - 1) % 16) 0) (both-true (leb 17 n && eqb ((n - 1) % 16) 0) (leb (n - 1) (w .limit)) f)),
+              (both (leb 17 n) (eqb ((n - 1) % 16) 0) (both (leb 17 n && eqb ((n - 1) % 16) 0) (leb (n - 1) (w .limit)) f .0) .0),
         )
     go false true f = omega (arith, eqb-true n 8 f)
     go false false f = omega (arith, eqb-true n (sizeOf (w .second)) f, size-least (w .second))

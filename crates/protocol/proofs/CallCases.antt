@@ -8,6 +8,7 @@ use native.Mathlib.Omega.{arith}
 use borrow.Author.Tests.{leb-true, ltb-true}
 use lib.Dec.{leb, ltb}
 use lib.ListN.{length, take}
+use Rattle.octets.proofs.Conjunction.{both}
 use Rattle.octets.specs.Bytes.{Bytes}
 use Rattle.compare.specs.Same.{same}
 use Rattle.compare.proofs.SameBytes.{same-eq}
@@ -69,10 +70,6 @@ text-gave (some x) d e = let q : x ≡ d = cc in ap some q
 text-gave none d e = no-gift e
 
 -- ---- turns
-
-pub both : (a b : Bool) → (a && b) ≡ true → (a ≡ true) × (b ≡ true)
-both true b e = (refl, e)
-both false b e = let z : _≡_ {A = ℕ} 0 1 = cc in let n : ⊥ = omega arith in absurd n
 
 no-test : {P : Type 0} → false ≡ true → P
 no-test e = let z : _≡_ {A = ℕ} 0 1 = cc in let n : ⊥ = omega arith in absurd n

@@ -10,6 +10,7 @@ use borrow.Author.Tests.{eq-eqb, ne-eqb, lt-ltb, le-ltb, le-leb, eqb-true, eqb-f
 use lib.Dec.{eqb, leb, ltb}
 use lib.ListN.{length, take}
 use lib.Seq.{length-take-le}
+use Rattle.octets.proofs.Conjunction.{both}
 use Rattle.octets.specs.Bytes.{Bytes, IsBytes}
 use Rattle.octets.specs.Choice.{if_then_else_}
 use Rattle.padding.specs.Padding.{paddedLength}
@@ -44,7 +45,6 @@ use Rattle.protocol.specs.Response.{wrapResponseChecks, unwrapResponseCh
 use Rattle.protocol.specs.HonestDelivery.{InStep, Keyed, CommandDelivered, DeliversCommands, ResponseDelivered, DeliversResponses, OpensInStep}
 use Rattle.validity.proofs.KeepsTheRules.{opening-served, command-served, response-served}
 use Rattle.protocol.proofs.Channel.{command-lawful, response-lawful}
-use Rattle.protocol.proofs.CallCases.{both}
 use Rattle.protocol.proofs.Runs.{Fresh, opened}
 
 pass : {A : Type 0} (ok : Bool) (r : Refusal) (rest a : Answer A) → ok ≡ true → rest ≡ a → (require ok else r ⨾ rest) ≡ a

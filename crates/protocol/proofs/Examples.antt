@@ -11,6 +11,7 @@ use native.Mathlib.Omega.{arith}
 use borrow.Author.Tests.{eqb-true, eqb-false, ne-eqb}
 use lib.Dec.{eqb}
 use lib.ListN.{length, replicate, getD, take, length-map}
+use Rattle.octets.proofs.Conjunction.{both}
 use Rattle.octets.specs.Bytes.{Bytes, IsBytes, zeros, _⊕_}
 use Rattle.octets.specs.Choice.{if_then_else_}
 use Rattle.octets.proofs.Xor.{xor-undo}
@@ -40,7 +41,6 @@ use Rattle.protocol.specs.Command.{commandInput, wrapCommandChecks, unwr
 use Rattle.protocol.specs.Response.{wrapResponseChecks, unwrapResponseChecks, responseMac, responseCiphertext, responseWrapped, responseAccepted, cardWraps, hostUnwraps}
 use Rattle.protocol.specs.Transcript.{Call, wrapCommand, unwrapCommand, wrapResponse, unwrapResponse, close, messages, inputs, Transcript, lastMac, chaining, encrypted, wrapped, received, acceptedCommand, acceptedResponse, noted, entered, State, moved, does, step, run, start}
 use Rattle.protocol.specs.Agreement.{Agrees, chainingValues, Collision, MacBreak, Excepted}
-use Rattle.protocol.proofs.CallCases.{both}
 
 -- ---- toy ciphers
 

@@ -12,6 +12,7 @@ use borrow.Author.Tests.{leb-true}
 use lib.Dec.{eqb, leb}
 use lib.ListN.{length, take, length-append}
 use lib.Seq.{append-snoc}
+use Rattle.octets.proofs.Conjunction.{both}
 use Rattle.octets.specs.Bytes.{Bytes, IsBytes, zeros}
 use Rattle.octets.specs.Choice.{if_then_else_}
 use Rattle.fields.specs.Field.{readField, ciphertextOf, coveredOf, macOf}
@@ -46,7 +47,7 @@ use Rattle.protocol.specs.Transcript.{Call, wrapCommand, unwrapCommand, 
 use Rattle.protocol.specs.Agreement.{Written, Collision, MacBreak, Breaks, BreaksIn, CallBytes}
 use Rattle.protocol.proofs.Logs.{append-cut, chaining-snoc}
 use Rattle.protocol.proofs.Channel.{Channel, command-lawful, response-lawful, channel-wrapped, channel-accepted}
-use Rattle.protocol.proofs.CallCases.{both, turn-is, MayWrapCommand, MayWrapResponse, CommandRead, ResponseRead, host-wraps, card-wraps, card-unwraps, host-unwraps}
+use Rattle.protocol.proofs.CallCases.{turn-is, MayWrapCommand, MayWrapResponse, CommandRead, ResponseRead, host-wraps, card-wraps, card-unwraps, host-unwraps}
 
 pub record AreKeys (K : Keys) : Type 0 where
   pub enc : IsKey (K .enc)

@@ -1,3 +1,4 @@
+pub mod Examples
 pub mod Logs
 pub mod Channel
 pub mod CallCases
@@ -6,4 +7,3 @@ pub mod Runs
 pub mod Refused
 pub mod Delivered
 pub mod Theorems
-pub mod Examples

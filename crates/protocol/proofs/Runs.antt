@@ -10,6 +10,7 @@ use borrow.Author.Tests.{eqb-true}
 use lib.Dec.{eqb}
 use lib.ListN.{length, take}
 use lib.Seq.{take-at}
+use Rattle.octets.proofs.Conjunction.{both}
 use Rattle.octets.specs.Bytes.{Bytes, zeros}
 use Rattle.octets.specs.Choice.{if_then_else_}
 use Rattle.refusal.specs.declared.Refusal.{Refusal}
@@ -32,7 +33,7 @@ use Rattle.protocol.specs.Answer.{Out, afterRefusal}
 use Rattle.protocol.specs.Transcript.{Call, wrapCommand, unwrapCommand, wrapResponse, unwrapResponse, close, sideOf, Gives, does, Transcript, commands, responses, lastMac, chaining, noted, entered, State, sessionAt, moved, step, run, start}
 use Rattle.protocol.specs.Agreement.{Agrees, BreaksIn, Excepted, KeyBytes, CallBytes, AllBytes, Agreement}
 use Rattle.protocol.proofs.Channel.{channel-empty, channel-length, channel-messages}
-use Rattle.protocol.proofs.CallCases.{both, turn-is, host-wraps, card-wraps, card-unwraps, host-unwraps}
+use Rattle.protocol.proofs.CallCases.{turn-is, host-wraps, card-wraps, card-unwraps, host-unwraps}
 use Rattle.protocol.proofs.Invariant.{AreKeys, Live, Inv, ready-pending, host-card, closed-shut, after-refusal, command-wrapped, response-wrapped, command-accepted, response-accepted}
 
 module _ (C : Ciphers) (K : Keys) where
