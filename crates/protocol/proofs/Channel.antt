@@ -48,7 +48,7 @@ pub command-lawful : (K : Keys) → Lawful (commands K)
 unfolding commandInput commandMacInput commandCounter
 command-lawful K =
     record {
-      begins = λ mcv h covered. (encodedHeader (h .ins) (h .p1) (h .p2) ++ covered, append-assoc mcv (encodedHeader (h .ins) (h .p1) (h .p2)) covered);
+      begins = λ mcv h covered. (_, append-assoc mcv _ covered);
       counter-is = λ i. record { bytes = big-endian-bytes 16 i; size = big-endian-length 16 i };
       small = omega arith;
     }

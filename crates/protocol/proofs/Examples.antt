@@ -246,6 +246,22 @@ check = record { header = record { ins = 0x20; p1 = 0x00; p2 = 0x98; le = false 
 repeated : List Call
 repeated = wrapCommand Host check 3000 ∷ received-as check check ∷ wrapResponse Card okay 3000 ∷ received-as check check ∷ []
 
+-- a response whose MAC was changed
+mac-changed : List Call
+mac-changed =
+    wrapCommand Host check 3000
+    ∷ unwrapCommand Card 0x20 0x00 0x98 (fieldOf (hostWraps toy (begin .host) check 3000 .answer)) 3000
+    ∷ wrapResponse Card okay 3000
+    ∷ unwrapResponse Host (okay .header) (responseField [] 0x90 0x00 (zeros 8)) 3000 ∷ []
+
+-- a VERIFY without data, its response, the same response again, and an exchange
+response-again : List Call
+response-again =
+    let first = exchange toy begin check okay in
+    let st = run toy keys begin (take 2 first) in
+    let again = unwrapResponse Host (okay .header) (fieldOf (cardWraps toy (st .card) okay 20000 .answer)) 20000 ∷ [] in
+    first ++ again ++ exchange toy (run toy keys begin (first ++ again)) verify okay
+
 abbrev Broken : List Call → Type 0
 Broken calls = Agrees flat keys (run flat keys begin calls .transcript) → ⊥
 
@@ -280,13 +296,16 @@ record Computed : Type 0 where
   data-differs : Broken data-changed
   le-differs : Broken le-changed
   status-differs : Broken status-changed
+  -- a wrong MAC is refused; a repeated response is, and what follows is accepted
+  mac-refused : counts (run toy keys begin mac-changed .transcript) ≡ 1 ∷ 1 ∷ 1 ∷ 0 ∷ []
+  repetition-refused : counts (run toy keys begin response-again .transcript) ≡ 2 ∷ 2 ∷ 2 ∷ 2 ∷ []
   -- w above r, and the two causes of an exception
   w-above-r : Agrees toy keys (run toy keys begin one-wrapped .transcript)
   new-input : Excepted toy keys begin never-wrapped
   same-chaining-value : Excepted flat keys begin repeated
 
 computed : Computed
-unfolding toyMac xorAll toyEncrypt toyDecrypt toy keys verify getData okay certificate fieldOf begin exchange two counts same padding pad paddedLength marked markBefore unpad lengthField readLength isShortest rank allowed rightSize rightSecond rightValue need_else_⨾_ withLength readObject notedObject ended onObject walk readField object encryptedData leObject statusWord macObject commandObjects responseObjects commandField responseField ciphertextLength encryptedDataLength commandLength responseLength encodedHeader commandMacInput responseMacInput allZero keysEnd keysZero mcvsZero keepsPhase valid countsAsOpen isTurn keysFit openSuite opening dataIn insPermitted leNeed dataNeed commandPermitted statusPermitted commandWanted responseWanted bigEndian commandCounter responseCounter require_else_⨾_ _and-then_ afterRefusal concluded objectsOf textOf commandInput wrapCommandChecks unwrapCommandChecks commandMac commandCiphertext commandWrapped commandAccepted hostWraps cardUnwraps wrapResponseChecks unwrapResponseChecks responseMac responseCiphertext responseWrapped responseAccepted cardWraps hostUnwraps lastMac chaining encrypted wrapped received acceptedCommand acceptedResponse noted entered moved does step run flat among distinct chainingValues forged received-as other-header other-data authenticate with-le more-commands more-responses header-changed data-changed le-changed status-changed one-wrapped never-wrapped check repeated p2Of sizeOf leOf sw1Of
+unfolding toyMac xorAll toyEncrypt toyDecrypt toy keys verify getData okay certificate fieldOf begin exchange two counts same padding pad paddedLength marked markBefore unpad lengthField readLength isShortest rank allowed rightSize rightSecond rightValue need_else_⨾_ withLength readObject notedObject ended onObject walk readField object encryptedData leObject statusWord macObject commandObjects responseObjects commandField responseField ciphertextLength encryptedDataLength commandLength responseLength encodedHeader commandMacInput responseMacInput allZero keysEnd keysZero mcvsZero keepsPhase valid countsAsOpen isTurn keysFit openSuite opening dataIn insPermitted leNeed dataNeed commandPermitted statusPermitted commandWanted responseWanted bigEndian commandCounter responseCounter require_else_⨾_ _and-then_ afterRefusal concluded objectsOf textOf commandInput wrapCommandChecks unwrapCommandChecks commandMac commandCiphertext commandWrapped commandAccepted hostWraps cardUnwraps wrapResponseChecks unwrapResponseChecks responseMac responseCiphertext responseWrapped responseAccepted cardWraps hostUnwraps lastMac chaining encrypted wrapped received acceptedCommand acceptedResponse noted entered moved does step run flat among distinct chainingValues forged received-as other-header other-data authenticate with-le more-commands more-responses header-changed data-changed le-changed status-changed one-wrapped never-wrapped check repeated mac-changed response-again p2Of sizeOf leOf sw1Of
 computed =
     record {
       counted = refl;
@@ -299,6 +318,8 @@ computed =
       data-differs = λ v. let e : _≡_ {A = ℕ} 1 3 = ap sizeOf (v .commandsAgree) in omega (arith, e);
       le-differs = λ v. let e : _≡_ {A = ℕ} 1 0 = ap leOf (v .commandsAgree) in omega (arith, e);
       status-differs = λ v. let e : _≡_ {A = ℕ} 0x6A 0x90 = ap sw1Of (v .responsesAgree) in omega (arith, e);
+      mac-refused = refl;
+      repetition-refused = refl;
       w-above-r =
           record {
             r≤s = omega arith;
