@@ -5,4 +5,4 @@ pub mod Tabulate
 pub mod ListsOfFour
 pub mod ByteStrings
 pub mod Writing
-pub mod Conjunction
+pub mod Tests

@@ -10,7 +10,7 @@ use lib.Dec.{leb}
 use lib.ListN.{length, length-append}
 use lib.Seq.{take-at, drop-at}
 use Rattle.octets.specs.Bytes.{Bytes}
-use Rattle.octets.proofs.Conjunction.{both}
+use Rattle.octets.proofs.Tests.{both}
 use Rattle.session.specs.Suites.{number, suiteOf}
 use Rattle.session.specs.Arrays.{Arrays}
 use Rattle.session.specs.declared.Side.{Side}

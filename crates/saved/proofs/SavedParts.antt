@@ -7,7 +7,7 @@ use borrow.Author.Tests.{eqb-true, leb-true}
 use lib.Dec.{eqb, leb}
 use lib.ListN.{length, getD, length-append}
 use Rattle.octets.specs.Bytes.{Bytes}
-use Rattle.octets.proofs.Conjunction.{both}
+use Rattle.octets.proofs.Tests.{both}
 use Rattle.session.specs.declared.Session.{Session}
 use Rattle.saved.specs.Saved.{header, keys, mcvs, headed}
 

@@ -11,7 +11,7 @@ use lib.Dec.{eqb}
 use lib.ListN.{length, drop}
 use Rattle.octets.specs.Bytes.{Bytes, zeros}
 use Rattle.octets.specs.Write.{over}
-use Rattle.octets.proofs.Conjunction.{both}
+use Rattle.octets.proofs.Tests.{both}
 use Rattle.session.specs.Suites.{keyLength}
 use Rattle.session.specs.Session.{stored}
 use Rattle.session.specs.Opening.{Keys, keysFit}

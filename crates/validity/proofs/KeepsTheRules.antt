@@ -11,7 +11,7 @@ use lib.ListN.{length, drop}
 use lib.Seq.{drop-at}
 use Rattle.octets.specs.Bytes.{Bytes, zeros}
 use Rattle.octets.specs.Choice.{if_then_else_}
-use Rattle.octets.proofs.Conjunction.{both, and-intro}
+use Rattle.octets.proofs.Tests.{both, and-intro}
 use Rattle.session.specs.Suites.{keyLength, suiteOf}
 use Rattle.session.specs.Session.{fresh, closed, commandTaken, responseTaken, stored}
 use Rattle.session.specs.Opening.{Keys, keysFit, openSuite, opening}

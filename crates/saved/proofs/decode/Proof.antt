@@ -3,22 +3,26 @@
 use borrow.Author.Needs.{needs}
 use Rattle.saved.proofs.decode.Statement.{statement}
 use Rattle.saved.proofs.decode.Tie as tie
-use mathlib.Core.Path.{sym, _∙_}
+use Rattle.octets.proofs.Tests.{outcome}
 use Rattle.saved.proofs.SavedParts.{headed-right}
-use Rattle.saved.specs.Saved.{decode}
+use Rattle.saved.specs.Saved.{headed, decode}
 
 decode-suite-requires : tie.Need-decode-suite-requires
 decode-suite-requires c κs =
-    headed-right (c .before .before .before .args .bytes .now)
-    (sym (c .before .headed .ensures) ∙ c .if1 .taken) .size
+    let b = c .before .before .before .args .bytes .now in
+    headed-right b (outcome (headed b) (c .before .headed .ensures) (c .if1 .taken)) .size
 
 returns : tie.Need-returns
 unfolding decode
-returns c = rw (← c .before .before .headed .ensures, c .before .if1 .taken) (c .decode-suite .ensures)
+returns c =
+    let b = c .before .before .before .before .args .bytes .now in
+    rw (outcome (headed b) (c .before .before .headed .ensures) (c .before .if1 .taken)) (c .decode-suite .ensures)
 
 returns-2 : tie.Need-returns-2
 unfolding decode
-returns-2 c = rw (← c .before .before .headed .ensures, c .before .if1 .left) (c .unreadable .ensures)
+returns-2 c =
+    let b = c .before .before .before .before .args .bytes .now in
+    rw (outcome (headed b) (c .before .before .headed .ensures) (c .before .if1 .left)) (c .unreadable .ensures)
 
 pub decode-spec : {M : Type 1} → statement M
 decode-spec =

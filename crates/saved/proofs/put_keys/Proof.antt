@@ -27,7 +27,8 @@ put-bytes-requires-2 c κs =
 
 put-bytes-requires-3 : tie.Need-put-bytes-requires-3
 put-bytes-requires-3 c κs =
-    let s = c .before .before .before .before .before .before .before .before .before .before .before .before .before .before .before .before .args .session in
+    let s = c .before .before .before .before .before .before .before .before
+    .before .before .before .before .before .before .before .before .args .session in
     let e : length (s .«sk_enc») ≡ 32 = search needs in
     let m : length (s .«sk_mac») ≡ 32 = search needs in
     let r : length (s .«sk_rmac») ≡ 32 = search needs in

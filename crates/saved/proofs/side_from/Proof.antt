@@ -5,10 +5,10 @@ use Rattle.saved.proofs.side_from.Tie as tie
 use borrow.Author.Tests.{eq-eqb, ne-eqb}
 
 returns : tie.Need-returns
-returns c = rw (eq-eqb _ _ (c .if1 .taken))
+returns c = rw (eq-eqb (c .before .args .n) 0 (c .if1 .taken))
 
 returns-2 : tie.Need-returns-2
-returns-2 c = rw (ne-eqb _ _ (c .if1 .left))
+returns-2 c = rw (ne-eqb (c .before .args .n) 0 (c .if1 .left))
 
 pub side-from-spec : {M : Type 1} → statement M
 side-from-spec = tie.close (tie.spec returns returns-2)

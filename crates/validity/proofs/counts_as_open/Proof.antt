@@ -11,14 +11,14 @@ use Rattle.session.specs.declared.Phase.{Phase}
 returns : tie.Need-returns
 unfolding countsAsOpen
 returns c =
-    c .valid .ensures ∙ ap (λ (p : Phase). isOpen p && valid (c .before .before .before .args .session))
-    (sym (c .before .enum-told .given .1))
+    let s = c .before .before .before .args .session in
+    c .valid .ensures ∙ ap (λ (p : Phase). isOpen p && valid s) (sym (c .before .enum-told .given .1))
 
 returns-2 : tie.Need-returns-2
 unfolding countsAsOpen
 returns-2 c =
-    c .valid2 .ensures ∙ ap (λ (p : Phase). isOpen p && valid (c .before .before .before .args .session))
-    (sym (c .before .enum-told2 .given .1))
+    let s = c .before .before .before .args .session in
+    c .valid2 .ensures ∙ ap (λ (p : Phase). isOpen p && valid s) (sym (c .before .enum-told2 .given .1))
 
 returns-3 : tie.Need-returns-3
 unfolding countsAsOpen

@@ -4,25 +4,33 @@ use borrow.Author.Needs.{needs}
 use Rattle.validity.proofs.keeps_ready.Statement.{statement}
 use Rattle.validity.proofs.keeps_ready.Tie as tie
 use borrow.Author.Tests.{eq-eqb, ne-eqb}
-use Rattle.validity.specs.Valid.{keepsPhase}
+use Rattle.octets.proofs.Tests.{outcome}
+use Rattle.validity.specs.Valid.{keysEnd, keepsPhase}
 
 returns : tie.Need-returns
 unfolding keepsPhase
 returns c =
+    let s = c .before .before .before .before .before .args .session in
     rw (
-      ← c .before .before .before .before .keys-end .ensures,
-      c .before .before .before .if1 .taken,
-      eq-eqb _ _ (c .before .if2 .taken),
+      outcome (keysEnd s) (c .before .before .before .before .keys-end .ensures)
+          (c .before .before .before .if1 .taken),
+      eq-eqb (s .count) 0 (c .before .if2 .taken),
     ) (c .mcvs-zero .ensures)
 
 returns-2 : tie.Need-returns-2
 unfolding keepsPhase
 returns-2 c =
-    rw (← c .before .before .before .keys-end .ensures, c .before .before .if1 .taken, ne-eqb _ _ (c .if2 .left))
+    let s = c .before .before .before .before .args .session in
+    rw (
+      outcome (keysEnd s) (c .before .before .before .keys-end .ensures) (c .before .before .if1 .taken),
+      ne-eqb (s .count) 0 (c .if2 .left),
+    )
 
 returns-3 : tie.Need-returns-3
 unfolding keepsPhase
-returns-3 c = rw (← c .before .keys-end .ensures, c .if1 .left)
+returns-3 c =
+    let s = c .before .before .args .session in
+    rw (outcome (keysEnd s) (c .before .keys-end .ensures) (c .if1 .left))
 
 pub keeps-ready-spec : {M : Type 1} → statement M
 keeps-ready-spec = tie.close (tie.spec (λ c κs. search needs) (λ c κs. search needs) returns returns-2 returns-3)

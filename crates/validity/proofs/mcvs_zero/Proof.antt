@@ -3,15 +3,21 @@
 use borrow.Author.Needs.{needs}
 use Rattle.validity.proofs.mcvs_zero.Statement.{statement}
 use Rattle.validity.proofs.mcvs_zero.Tie as tie
-use Rattle.validity.specs.Valid.{mcvsZero}
+use Rattle.octets.proofs.Tests.{outcome}
+use Rattle.validity.specs.Valid.{allZero, mcvsZero}
 
 returns : tie.Need-returns
 unfolding mcvsZero
-returns c = rw (← c .before .before .before .all-zero .ensures, c .before .before .if1 .taken) (c .all-zero2 .ensures)
+returns c =
+    let s = c .before .before .before .before .before .before .before .args .session in
+    rw (outcome (allZero (s .«command_mcv»)) (c .before .before .before .all-zero .ensures)
+    (c .before .before .if1 .taken)) (c .all-zero2 .ensures)
 
 returns-2 : tie.Need-returns-2
 unfolding mcvsZero
-returns-2 c = rw (← c .before .all-zero .ensures, c .if1 .left)
+returns-2 c =
+    let s = c .before .before .before .before .before .args .session in
+    rw (outcome (allZero (s .«command_mcv»)) (c .before .all-zero .ensures) (c .if1 .left))
 
 pub mcvs-zero-spec : {M : Type 1} → statement M
 mcvs-zero-spec =

@@ -9,27 +9,27 @@ use Rattle.validity.specs.Valid.{keepsPhase, valid}
 
 returns : tie.Need-returns
 unfolding valid
-returns c = rw (lt-leb _ _ (c .if1 .taken))
+returns c = rw (lt-leb (c .before .before .args .session .count) 65535 (c .if1 .taken))
 
 returns-2 : tie.Need-returns-2
 unfolding valid
 returns-2 c =
-    rw (le-leb _ _ (c .before .before .before .if1 .left))
-    (c .keeps-ready .ensures ∙ ap (keepsPhase (c .before .before .before .before .before .args .session))
+    let s = c .before .before .before .before .before .args .session in
+    rw (le-leb (s .count) 65535 (c .before .before .before .if1 .left)) (c .keeps-ready .ensures ∙ ap (keepsPhase s)
     (sym (c .before .enum-told .given .1)))
 
 returns-3 : tie.Need-returns-3
 unfolding valid
 returns-3 c =
-    rw (le-leb _ _ (c .before .before .before .if1 .left))
-    (c .keeps-pending .ensures ∙ ap (keepsPhase (c .before .before .before .before .before .args .session))
-    (sym (c .before .enum-told2 .given .1)))
+    let s = c .before .before .before .before .before .args .session in
+    rw (le-leb (s .count) 65535 (c .before .before .before .if1 .left))
+    (c .keeps-pending .ensures ∙ ap (keepsPhase s) (sym (c .before .enum-told2 .given .1)))
 
 returns-4 : tie.Need-returns-4
 unfolding valid
 returns-4 c =
-    rw (le-leb _ _ (c .before .before .before .if1 .left))
-    (c .keeps-closed .ensures ∙ ap (keepsPhase (c .before .before .before .before .before .args .session))
+    let s = c .before .before .before .before .before .args .session in
+    rw (le-leb (s .count) 65535 (c .before .before .before .if1 .left)) (c .keeps-closed .ensures ∙ ap (keepsPhase s)
     (sym (c .before .enum-told3 .given .1)))
 
 pub valid-spec : {M : Type 1} → statement M
