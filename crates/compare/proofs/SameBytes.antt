@@ -10,7 +10,7 @@ use borrow.Author.Tests.{eq-eqb, ne-eqb, eqb-true, eqb-false}
 use lib.Bits.{bitXor, bitOr, bitAnd, or-add-and, and-le-l, and-le-r, or-zero-l, xor-self}
 use lib.Dec.{eqb}
 use lib.ListN.{length, getD, take}
-use Rattle.octets.proofs.Conjunction.{both}
+use Rattle.octets.proofs.Tests.{both}
 use Rattle.octets.specs.Bytes.{Bytes}
 use Rattle.octets.proofs.Tests.{both}
 use Rattle.octets.proofs.Xor.{xor-eq}

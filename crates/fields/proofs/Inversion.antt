@@ -7,7 +7,7 @@ use native.Mathlib.Omega.{arith}
 use borrow.Author.Tests.{eqb-true, leb-true, leb-false, ltb-true}
 use lib.Dec.{eqb, leb, ltb, lit≤}
 use lib.ListN.{length, getD}
-use Rattle.octets.proofs.Conjunction.{both}
+use Rattle.octets.proofs.Tests.{both}
 use Rattle.octets.specs.Bytes.{Bytes}
 use Rattle.octets.specs.Choice.{if_then_else_}
 use Rattle.tlv.specs.Length.{readLength, isShortest}

@@ -11,7 +11,7 @@ use native.Mathlib.Omega.{arith}
 use borrow.Author.Tests.{eqb-true, eqb-false, ne-eqb}
 use lib.Dec.{eqb}
 use lib.ListN.{length, replicate, getD, take, length-map}
-use Rattle.octets.proofs.Conjunction.{both}
+use Rattle.octets.proofs.Tests.{both}
 use Rattle.octets.specs.Bytes.{Bytes, IsBytes, zeros, _⊕_}
 use Rattle.octets.specs.Choice.{if_then_else_}
 use Rattle.octets.proofs.Xor.{xor-undo}

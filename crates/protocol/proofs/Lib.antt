@@ -6,4 +6,5 @@ pub mod Invariant
 pub mod Runs
 pub mod Refused
 pub mod Delivered
+pub mod RulesKept
 pub mod Theorems
