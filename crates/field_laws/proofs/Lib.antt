@@ -4,3 +4,4 @@ pub mod Determined
 pub mod ReadBack
 pub mod Shortest
 pub mod CoveredWritten
+pub mod AcceptedRules

@@ -39,3 +39,13 @@ pub record ReadsBack (w : Wanted) (field ciphertext : Bytes) (there : Bool) (mac
   pub second : objects .second ≡ there
   pub covers : coveredOf field objects ≡ covered
   pub tag : macOf field objects ≡ mac
+
+-- an accepted field: nothing in it is unwanted or lacking, its data is whole blocks up to the limit, and all stands within it
+pub record Conforms (w : Wanted) (field : Bytes) (objects : Objects) : Type 0 where
+  pub encrypted : suits (w .«data») (ltb 0 (objects .«ciphertext_len»)) ≡ true
+  pub second : suits (needOf (w .second)) (objects .second) ≡ true
+  pub size : length (ciphertextOf field objects) ≡ objects .«ciphertext_len»
+  pub blocks : WholeBlocks (w .limit) (ciphertextOf field objects)
+  pub data-within : objects .ciphertext + objects .«ciphertext_len» ≤ length field
+  pub covered-within : objects .«mac_start» ≤ length field
+  pub mac-within : objects .mac + 8 ≤ length field
