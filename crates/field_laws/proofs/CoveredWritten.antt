@@ -17,7 +17,7 @@ use Rattle.fields.specs.declared.Second.the-variants.{Le, Status}
 use Rattle.fields.specs.declared.Wanted.{Wanted}
 use Rattle.field_laws.specs.Covered.{dataIn, secondIn, sw1In, sw2In}
 use Rattle.field_laws.specs.Written.{Suits, ReadsBack, WholeBlocks}
-use Rattle.field_laws.proofs.Determined.{Determined, determined}
+use Rattle.field_laws.proofs.Determined.{determined}
 use Rattle.field_laws.proofs.ReadBack.{read-command, read-response}
 
 -- a reader that wants whatever is there

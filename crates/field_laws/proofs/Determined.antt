@@ -25,7 +25,7 @@ use Rattle.fields.specs.declared.DataObject.{DataObject}
 use Rattle.fields.specs.declared.Objects.{Objects}
 use Rattle.fields.specs.declared.FieldRead.the-variants.{Read}
 use Rattle.fields.proofs.Inversion.{Stands, some-byte}
-use Rattle.field_laws.specs.Covered.{dataBehind, endBehind, dataIn, dataEnd, secondIn, sw1In, sw2In}
+use Rattle.field_laws.specs.Covered.{dataBehind, endBehind, dataIn, dataEnd, secondIn, sw1In, sw2In, Determined}
 use Rattle.field_laws.proofs.Noted.{not-data, not-mac, noted-data, noted-mac, noted-second}
 use Rattle.field_laws.proofs.Acceptance.{Part, Optional, Tail, Accepted, accepted, all-there}
 
@@ -148,11 +148,6 @@ status-value second sw1 sw2 e xs at f =
     (eqb-true (getD xs at 0) sw1 (h .0), eqb-true (getD xs (at + 1) 0) sw2 (h .1))
 
 -- ---- the theorem
-
-pub record Determined (w : Wanted) (xs : Bytes) (p : Objects) : Type 0 where
-  pub encrypted : ciphertextOf xs p ≡ dataIn (coveredOf xs p)
-  pub present : p .second ≡ secondIn (coveredOf xs p)
-  pub status : (sw1 sw2 : ℕ) → w .second ≡ Status sw1 sw2 → (sw1In (coveredOf xs p) ≡ sw1) × (sw2In (coveredOf xs p) ≡ sw2)
 
 module _ (w : Wanted) (xs : Bytes) (p : Objects) (e : readField w xs ≡ Read p) where
   pub parts : Accepted w xs p

@@ -1,4 +1,5 @@
 -- What the bytes before '8E' say, whatever a field has behind them. Assumes nothing.
+use mathlib.Core.Path.{_≡_}
 use mathlib.Core.Bool.{Bool}
 use mathlib.Core.List.{[]}
 use Prim.Native.Nat.{ℕ, _+_, _-_}
@@ -9,6 +10,10 @@ use Rattle.octets.specs.Choice.{if_then_else_}
 use Rattle.tlv.specs.Length.{readLength}
 use Rattle.tlv.specs.declared.LengthRead.{LengthRead}
 use Rattle.tlv.specs.declared.LengthRead.the-variants.{Length, BadForm}
+use Rattle.fields.specs.Field.{ciphertextOf, coveredOf}
+use Rattle.fields.specs.declared.Second.the-variants.{Status}
+use Rattle.fields.specs.declared.Wanted.{Wanted}
+use Rattle.fields.specs.declared.Objects.{Objects}
 
 -- the encrypted data of an '87' whose length was read: behind tag, length field and indicator byte
 unfoldable pub dataBehind : Bytes → LengthRead → Bytes
@@ -36,3 +41,9 @@ sw1In xs = getD xs (length xs - 2) 0
 
 unfoldable pub sw2In : Bytes → ℕ
 sw2In xs = getD xs (length xs - 1) 0
+
+-- what an accepted field holds is what its bytes before '8E' say
+pub record Determined (w : Wanted) (xs : Bytes) (p : Objects) : Type 0 where
+  pub encrypted : ciphertextOf xs p ≡ dataIn (coveredOf xs p)
+  pub present : p .second ≡ secondIn (coveredOf xs p)
+  pub status : (sw1 sw2 : ℕ) → w .second ≡ Status sw1 sw2 → (sw1In (coveredOf xs p) ≡ sw1) × (sw2In (coveredOf xs p) ≡ sw2)
