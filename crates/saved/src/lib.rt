@@ -12,6 +12,7 @@ use validity::valid;
 ghost use mathlib.Core.Path.{_≡_};
 ghost use Prim.Native.Nat.{_+_, _*_, _≤_};
 ghost use lib.ListN.{length, getD};
+ghost use Rattle.octets.specs.Bytes.{IsBytes};
 ghost use Rattle.octets.specs.Write.{Wrote};
 ghost use Rattle.session.specs.Suites.{suiteOf};
 ghost use Rattle.saved.specs.Saved.{sideNumber, phaseNumber, header, keys, mcvs, encode, encoding, encodedIn};
@@ -253,7 +254,8 @@ fn decode_suite(bytes: &[u8]) -> Decoded
 
 // Reads a saved session: refusal 16.
 pub fn decode(bytes: &[u8]) -> Decoded
-    ensures { λ decoded. ⌜ decoded ≡ decode (now (bytes .entry)) ⌝ }
+    ensures decoded { λ decoded. ⌜ decoded ≡ decode (now (bytes .entry)) ⌝ }
+    ensures bytes { λ decoded. ⌜ IsBytes (now (bytes .entry)) ⌝ }
 {
     if headed(bytes) {
         return decode_suite(bytes);
