@@ -8,24 +8,26 @@ use Rattle.session.specs.Opening.{opening, openSuite}
 returns : tie.Need-returns
 unfolding opening
 returns c =
-    let d = c .before .before .before .before in
-    (rw (← d .suite-of .ensures, c .before .before .known .given .1) (c .open-suite .ensures),
-    record {
-      enc = λ i l. d .before .before .before .shared-slice-known .given i .fits;
-      mac = λ i l. d .before .before .shared-slice-known2 .given i .fits;
-      rmac = λ i l. d .before .shared-slice-known3 .given i .fits;
-    })
+    let d = c .before .before .before .before in (
+      rw (← d .suite-of .ensures, c .before .before .known .given .1) (c .open-suite .ensures),
+      record {
+        enc = λ i l. d .before .before .before .shared-slice-known .given i .fits;
+        mac = λ i l. d .before .before .shared-slice-known2 .given i .fits;
+        rmac = λ i l. d .before .shared-slice-known3 .given i .fits;
+      },
+    )
 
 returns-2 : tie.Need-returns-2
 unfolding opening openSuite
 returns-2 c =
-    let d = c .before .before .before in
-    (rw (← d .suite-of .ensures, c .before .enum-told .given .1) (c .not-opened .ensures),
-    record {
-      enc = λ i l. d .before .before .before .shared-slice-known .given i .fits;
-      mac = λ i l. d .before .before .shared-slice-known2 .given i .fits;
-      rmac = λ i l. d .before .shared-slice-known3 .given i .fits;
-    })
+    let d = c .before .before .before in (
+      rw (← d .suite-of .ensures, c .before .enum-told .given .1) (c .not-opened .ensures),
+      record {
+        enc = λ i l. d .before .before .before .shared-slice-known .given i .fits;
+        mac = λ i l. d .before .before .shared-slice-known2 .given i .fits;
+        rmac = λ i l. d .before .shared-slice-known3 .given i .fits;
+      },
+    )
 
 pub open-session-spec : {M : Type 1} → statement M
 open-session-spec =
