@@ -1,3 +1,4 @@
 pub mod SavedParts
 pub mod DecodeEncode
 pub mod EncodeDecode
+pub mod SavedExamples

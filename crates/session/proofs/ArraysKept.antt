@@ -13,7 +13,7 @@ use Rattle.octets.proofs.ByteStrings.{by-test}
 use Rattle.session.specs.Suites.{keyLength, suiteOf}
 use Rattle.session.specs.Session.{closed, closedAt, commandTaken, responseTaken, stored}
 use Rattle.session.specs.Opening.{Keys, keysFit, openSuite, opening}
-use Rattle.session.specs.Arrays.{Block, Arrays}
+use Rattle.session.specs.Arrays.{Block, KeysOfBytes, Arrays}
 use Rattle.session.specs.declared.Side.{Side}
 use Rattle.session.specs.declared.Suite.{Suite}
 use Rattle.session.specs.declared.SuiteNumber.{SuiteNumber}
@@ -66,14 +66,8 @@ command-arrays a m = record { enc = a .enc; mac = a .mac; rmac = a .rmac; comman
 pub response-arrays : {s : Session} {mcv : Bytes} → Arrays s → Block 16 mcv → Arrays (responseTaken s mcv)
 response-arrays a m = record { enc = a .enc; mac = a .mac; rmac = a .rmac; command = a .command; response = m }
 
--- keys as a caller can hand them in
-pub record BytesKeys (k : Keys) : Type 0 where
-  pub enc : IsBytes (k .enc)
-  pub mac : IsBytes (k .mac)
-  pub rmac : IsBytes (k .rmac)
-
 -- refused or not
-pub opening-arrays : (side : Side) (suite : ℕ) (k : Keys) → BytesKeys k → Arrays (opening side suite k .session)
+pub opening-arrays : (side : Side) (suite : ℕ) (k : Keys) → KeysOfBytes k → Arrays (opening side suite k .session)
 unfolding opening openSuite
 opening-arrays side suite k b = go (suiteOf suite)
   where

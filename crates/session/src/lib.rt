@@ -7,6 +7,7 @@ ghost use lib.ListN.{length};
 ghost use Rattle.session.specs.Suites.{keyLength, number, suiteOf};
 ghost use Rattle.session.specs.Session.{fresh, closed, closedAt, noSession, commandTaken, responseTaken, stored};
 ghost use Rattle.session.specs.Turn.{sameSide, samePhase, isTurn};
+ghost use Rattle.session.specs.Arrays.{KeysOfBytes};
 ghost use Rattle.session.specs.Opening.{keys, keysFit, notOpened, openSuite, opening};
 
 pub enum Side {
@@ -205,14 +206,16 @@ impl Session {
 
     // The host's opening: refusals 11 and 12.
     pub fn open_host(suite: u32, sk_enc: &[u8], sk_mac: &[u8], sk_rmac: &[u8]) -> Opened
-        ensures { λ opened. ⌜ opened ≡ opening Side.Host suite (keys (now («sk_enc» .entry)) (now («sk_mac» .entry)) (now («sk_rmac» .entry))) ⌝ }
+        ensures opened { λ opened. ⌜ opened ≡ opening Side.Host suite (keys (now («sk_enc» .entry)) (now («sk_mac» .entry)) (now («sk_rmac» .entry))) ⌝ }
+        ensures bytes { λ opened. ⌜ KeysOfBytes (keys (now («sk_enc» .entry)) (now («sk_mac» .entry)) (now («sk_rmac» .entry))) ⌝ }
     {
         open_session(Side::Host, suite, sk_enc, sk_mac, sk_rmac)
     }
 
     // The card's opening: refusals 11 and 12.
     pub fn open_card(suite: u32, sk_enc: &[u8], sk_mac: &[u8], sk_rmac: &[u8]) -> Opened
-        ensures { λ opened. ⌜ opened ≡ opening Side.Card suite (keys (now («sk_enc» .entry)) (now («sk_mac» .entry)) (now («sk_rmac» .entry))) ⌝ }
+        ensures opened { λ opened. ⌜ opened ≡ opening Side.Card suite (keys (now («sk_enc» .entry)) (now («sk_mac» .entry)) (now («sk_rmac» .entry))) ⌝ }
+        ensures bytes { λ opened. ⌜ KeysOfBytes (keys (now («sk_enc» .entry)) (now («sk_mac» .entry)) (now («sk_rmac» .entry))) ⌝ }
     {
         open_session(Side::Card, suite, sk_enc, sk_mac, sk_rmac)
     }
@@ -264,7 +267,8 @@ fn open_suite(side: Side, suite: Suite, enc: &[u8], mac: &[u8], rmac: &[u8]) -> 
 }
 
 fn open_session(side: Side, suite: u32, enc: &[u8], mac: &[u8], rmac: &[u8]) -> Opened
-    ensures { λ opened. ⌜ opened ≡ opening side suite (keys (now (enc .entry)) (now (mac .entry)) (now (rmac .entry))) ⌝ }
+    ensures opened { λ opened. ⌜ opened ≡ opening side suite (keys (now (enc .entry)) (now (mac .entry)) (now (rmac .entry))) ⌝ }
+    ensures bytes { λ opened. ⌜ KeysOfBytes (keys (now (enc .entry)) (now (mac .entry)) (now (rmac .entry))) ⌝ }
 {
     let known = suite_of(suite);
     match known {

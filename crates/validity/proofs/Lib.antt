@@ -1,1 +1,2 @@
 pub mod KeepsTheRules
+pub mod RuleExamples

@@ -1,4 +1,4 @@
--- `open_session` meets its contract: a suite that is known, or not.
+-- `open_session` meets its contract: a suite that is known, or not; and what a slice of bytes holds is known at its entry.
 -- Assumes nothing.
 use borrow.Author.Needs.{needs}
 use Rattle.session.proofs.open_session.Statement.{statement}
@@ -7,11 +7,27 @@ use Rattle.session.specs.Opening.{opening, openSuite}
 
 returns : tie.Need-returns
 unfolding opening
-returns c = rw (← c .before .before .before .before .suite-of .ensures, c .before .before .known .given .1) (c .open-suite .ensures)
+returns c =
+    let d = c .before .before .before .before in (
+      rw (← d .suite-of .ensures, c .before .before .known .given .1) (c .open-suite .ensures),
+      record {
+        enc = λ i l. d .before .before .before .shared-slice-known .given i .fits;
+        mac = λ i l. d .before .before .shared-slice-known2 .given i .fits;
+        rmac = λ i l. d .before .shared-slice-known3 .given i .fits;
+      },
+    )
 
 returns-2 : tie.Need-returns-2
 unfolding opening openSuite
-returns-2 c = rw (← c .before .before .before .suite-of .ensures, c .before .enum-told .given .1) (c .not-opened .ensures)
+returns-2 c =
+    let d = c .before .before .before in (
+      rw (← d .suite-of .ensures, c .before .enum-told .given .1) (c .not-opened .ensures),
+      record {
+        enc = λ i l. d .before .before .before .shared-slice-known .given i .fits;
+        mac = λ i l. d .before .before .shared-slice-known2 .given i .fits;
+        rmac = λ i l. d .before .shared-slice-known3 .given i .fits;
+      },
+    )
 
 pub open-session-spec : {M : Type 1} → statement M
 open-session-spec =

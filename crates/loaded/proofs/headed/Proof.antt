@@ -1,11 +1,11 @@
 -- `headed` meets its contract: one case for each test.
 -- Assumes nothing.
 use borrow.Author.Needs.{needs}
-use Rattle.saved.proofs.headed.Statement.{statement}
-use Rattle.saved.proofs.headed.Tie as tie
+use Rattle.loaded.proofs.headed.Statement.{statement}
+use Rattle.loaded.proofs.headed.Tie as tie
 use borrow.Author.Tests.{eq-eqb, ne-eqb, le-leb, lt-leb}
 use lib.ListN.{length, getD}
 use Rattle.saved.specs.Saved.{headed}
 
 returns : tie.Need-returns
 unfolding headed

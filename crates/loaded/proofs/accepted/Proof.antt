@@ -1,11 +1,11 @@
 -- `accepted` meets its contract: a session that keeps the rules, or not.
 -- Assumes nothing.
 use borrow.Author.Needs.{needs}
-use Rattle.saved.proofs.accepted.Statement.{statement}
-use Rattle.saved.proofs.accepted.Tie as tie
+use Rattle.loaded.proofs.accepted.Statement.{statement}
+use Rattle.loaded.proofs.accepted.Tie as tie
 use Rattle.octets.proofs.Tests.{outcome}
 use Rattle.validity.specs.Valid.{valid}
 use Rattle.saved.specs.Saved.{accepted}
 
 returns : tie.Need-returns
 unfolding accepted

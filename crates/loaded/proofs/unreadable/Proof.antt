@@ -1,8 +1,8 @@
 -- `unreadable` meets its contract: the refusal, and no session.
 -- Assumes nothing.
 use borrow.Author.Needs.{needs}
-use Rattle.saved.proofs.unreadable.Statement.{statement}
-use Rattle.saved.proofs.unreadable.Tie as tie
+use Rattle.loaded.proofs.unreadable.Statement.{statement}
+use Rattle.loaded.proofs.unreadable.Tie as tie
 
 returns : tie.Need-returns
 returns c = rw (c .none .ensures)

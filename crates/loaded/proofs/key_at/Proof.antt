@@ -1,8 +1,8 @@
 -- `key_at` meets its contract: the 32 bytes are written over as many zeros.
 -- Assumes nothing.
 use borrow.Author.Needs.{needs}
-use Rattle.saved.proofs.key_at.Statement.{statement}
-use Rattle.saved.proofs.key_at.Tie as tie
+use Rattle.loaded.proofs.key_at.Statement.{statement}
+use Rattle.loaded.proofs.key_at.Tie as tie
 use mathlib.Core.Path.{_≡_, _∙_}
 use Prim.Native.Nat.{_+_, _-_}
 use native.Mathlib.Nat.{add-sub-cancel-left}

@@ -1,9 +1,9 @@
 -- `session_from` meets its contract: field by field.
 -- Assumes nothing.
 use borrow.Author.Needs.{needs}
-use Rattle.saved.proofs.session_from.Statement.{statement}
-use Rattle.saved.proofs.session_from.Tie as tie
+use Rattle.loaded.proofs.session_from.Statement.{statement}
+use Rattle.loaded.proofs.session_from.Tie as tie
 use Rattle.saved.specs.Saved.{sessionFrom}
 
 returns : tie.Need-returns
 unfolding sessionFrom

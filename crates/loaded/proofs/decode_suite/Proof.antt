@@ -1,10 +1,10 @@
 -- `decode_suite` meets its contract: a suite that is known, or not.
 -- Assumes nothing.
 use borrow.Author.Needs.{needs}
-use Rattle.saved.proofs.decode_suite.Statement.{statement}
-use Rattle.saved.proofs.decode_suite.Tie as tie
+use Rattle.loaded.proofs.decode_suite.Statement.{statement}
+use Rattle.loaded.proofs.decode_suite.Tie as tie
 use mathlib.Core.Path.{ap, _∙_}
 use Rattle.saved.specs.Saved.{decodeSuite, accepted}
 
 returns : tie.Need-returns
 unfolding decodeSuite

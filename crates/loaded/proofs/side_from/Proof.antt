@@ -1,7 +1,7 @@
 -- `side_from` meets its contract: one case for each number.
 -- Assumes nothing.
-use Rattle.saved.proofs.side_from.Statement.{statement}
-use Rattle.saved.proofs.side_from.Tie as tie
+use Rattle.loaded.proofs.side_from.Statement.{statement}
+use Rattle.loaded.proofs.side_from.Tie as tie
 use borrow.Author.Tests.{eq-eqb, ne-eqb}
 
 returns : tie.Need-returns
