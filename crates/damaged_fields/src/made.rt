@@ -4,6 +4,9 @@ use fields::Need;
 use fields::Second;
 use fields::Wanted;
 use fields::read_field;
+use octets::put_bytes;
+ghost use Prim.Native.Nat.{_≤_};
+ghost use lib.ListN.{length};
 
 fn command(damage: &[u8], field: &[u8]) {
     row::begin(b"command  ", damage);
@@ -90,6 +93,35 @@ pub fn length_sizes() {
         b"'87 82 08 11', E 2064   ",
         b"\x87\x82\x08\x11\x01CCCCCCCCCCCCCCCC\x97\x01\x00\x8E\x08MMMMMMMM",
     );
+}
+
+// '8E' has eight bytes, '87' a multiple of 16 behind the '01': the field is whole, only the size is wrong.
+pub fn whole_sizes() {
+    command(
+        b"'8E 07'                 ",
+        b"\x87\x11\x01CCCCCCCCCCCCCCCC\x97\x01\x00\x8E\x07MMMMMMM",
+    );
+    whole(b"'87 19', E 24           ", b"\x87\x19\x01", 24);
+}
+
+// Either side of the lines between the three forms, all bytes there. Of these E only 256 is a multiple of 16.
+pub fn length_edges() {
+    whole(b"'87 7F', E 126          ", b"\x87\x7F\x01", 126);
+    whole(b"'87 81 7F', E 126       ", b"\x87\x81\x7F\x01", 126);
+    whole(b"'87 81 FF', E 254       ", b"\x87\x81\xFF\x01", 254);
+    whole(b"'87 82 00 FF', E 254    ", b"\x87\x82\x00\xFF\x01", 254);
+    whole(b"'87 82 01 00', E 255    ", b"\x87\x82\x01\x00\x01", 255);
+    whole(b"'87 82 01 01', E 256    ", b"\x87\x82\x01\x01\x01", 256);
+}
+
+// The start of '87' as given, e bytes of encrypted data, '97' and '8E'.
+fn whole(damage: &[u8], start: &[u8], e: usize)
+    requires { ⌜ (length (now start) ≤ 5) × (e ≤ 256) ⌝ }
+{
+    let mut field = [b'C'; 274];
+    let at = put_bytes(&mut field, 0, start);
+    let end = put_bytes(&mut field, at + e, b"\x97\x01\x00\x8E\x08MMMMMMMM");
+    command(damage, &field[..end]);
 }
 
 pub fn responses() {

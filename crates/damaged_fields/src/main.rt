@@ -17,6 +17,8 @@ fn main() {
     made::order();
     made::length_forms();
     made::length_sizes();
+    made::whole_sizes();
+    made::length_edges();
     made::responses();
     made::response_length_sizes();
     made::other_commands();

@@ -1,10 +1,14 @@
-// A row of the table: the field, what was done to it, and the reader's answer. Columns begin at 0, 9, 33, 37, 50 and 55.
+// A row of the table: the field, what was done to it, and the reader's answer. Columns begin at 0, 9, 33, 37, 50 and 55; an accepted
+// field's objects at 50.
 use fields::Breach;
 use fields::FieldRead;
+use fields::Objects;
 use fields::Rule;
 
 pub fn head() {
-    print::text(b"field    damage                  no  rule         tag  offset\n");
+    print::text(
+        b"field    damage                  no  rule         tag  offset, or the objects read\n",
+    );
 }
 
 // 9 and 24 bytes of text.
@@ -31,10 +35,27 @@ pub fn begin_cut_off(name: &[u8], n: usize) {
 
 pub fn end(read: FieldRead) {
     match read {
-        FieldRead::Read(_) => print::text(b" 0  accepted\n"),
+        FieldRead::Read(objects) => accepted(objects),
         FieldRead::Malformed(breach) => malformed(breach),
         FieldRead::Missing(tag, end) => place(b" 8  missing      ", tag, end),
     }
+}
+
+// Where the encrypted data stands and its length, whether the second object is there, where '8E' starts and where its value does.
+fn accepted(objects: Objects) {
+    print::text(b" 0  accepted     data ");
+    decimal(objects.ciphertext);
+    print::text(b" + ");
+    decimal(objects.ciphertext_len);
+    if objects.second {
+        print::text(b"  second yes  8E ");
+    } else {
+        print::text(b"  second no   8E ");
+    }
+    decimal(objects.mac_start);
+    print::text(b"  mac ");
+    decimal(objects.mac);
+    print::newline();
 }
 
 fn malformed(breach: Breach) {
@@ -56,7 +77,7 @@ fn place(answer: &[u8], tag: u8, offset: usize) {
     print::newline();
 }
 
-// Three places wide: the longest field here has 146 bytes.
+// Three places wide: the longest field here has 274 bytes.
 fn decimal(value: usize) {
     if value < 100 {
         print::text(b" ");

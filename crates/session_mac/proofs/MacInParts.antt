@@ -1,0 +1,32 @@
+-- The MAC of a message absorbed in parts, under a session's key.
+-- Assumes nothing.
+use mathlib.Core.Path.{_≡_, sym, ap, _∙_}
+use mathlib.Core.List.{_++_}
+use lib.ListN.{length}
+use Rattle.octets.specs.Bytes.{Bytes}
+use Rattle.key_expansion.specs.KeyExpansion.{schedule}
+use Rattle.aes.specs.Aes.{ciph as scheduleCiph}
+use Rattle.cmac.specs.Cmac.{cmac}
+use Rattle.cmac.specs.Running.{start, absorb, finish}
+use Rattle.cmac.proofs.Theorems.{absorb-append, cmac-aes}
+use Rattle.session.specs.Session.{keyIn}
+use Rattle.session.specs.declared.Suite.{Suite}
+use Rattle.ciphers.specs.Aes.{ciph}
+use Rattle.session_keys.specs.SessionKeys.{keySize}
+use Rattle.session_keys.proofs.SessionCiphers.{session-ciph}
+
+module _ (suite : Suite) (key : Bytes) (h : length key ≡ 32) where
+  abbrev c : Bytes → Bytes
+  c = scheduleCiph (keySize suite) (schedule (keySize suite) key)
+
+  same-cipher : c ≡ ciph (keyIn suite key)
+  same-cipher = λ i x. sym (session-ciph suite key h x) i
+
+  pub in-two-parts : (a b : Bytes) → finish c (absorb c (absorb c start a) b) ≡ cmac (ciph (keyIn suite key)) (a ++ b)
+  in-two-parts a b =
+      ap (finish c) (sym (absorb-append c start a b))
+      ∙ cmac-aes (keySize suite) (schedule (keySize suite) key) (a ++ b)
+      ∙ ap (λ (f : Bytes → Bytes). cmac f (a ++ b)) same-cipher
+
+  pub in-three-parts : (a b d : Bytes) → finish c (absorb c (absorb c (absorb c start a) b) d) ≡ cmac (ciph (keyIn suite key)) (a ++ b ++ d)
+  in-three-parts a b d = ap (λ s. finish c (absorb c s d)) (sym (absorb-append c start a b)) ∙ in-two-parts (a ++ b) d
