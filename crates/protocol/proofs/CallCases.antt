@@ -31,7 +31,7 @@ use Rattle.session.specs.declared.Session.{Session}
 use Rattle.ciphers.specs.Ciphers.{Ciphers}
 use Rattle.protocol.specs.Message.{CommandHeader, StatusWord, Message, Command, Response, maxCommandData, maxResponseData, maxCommandField, maxResponseField, commandLimit}
 use Rattle.protocol.specs.Permission.{insPermitted, commandPermitted, statusPermitted, commandWanted, responseWanted}
-use Rattle.protocol.specs.Counter.{commandCounter, responseCounter}
+use Rattle.counter.specs.Counter.{commandCounter, responseCounter}
 use Rattle.protocol.specs.Answer.{Answer, refused, gave, require_else_⨾_, _and-then_, Outcome, Out, afterRefusal, concluded, objectsOf, textOf}
 use Rattle.protocol.specs.Command.{wrapCommandChecks, unwrapCommandChecks, CommandGiven, commandMac, commandCiphertext, commandWrapped, commandAccepted, headerRead, hostWraps, cardUnwraps}
 use Rattle.protocol.specs.Response.{wrapResponseChecks, unwrapResponseChecks, responseMac, responseCiphertext, responseWrapped, responseAccepted, cardWraps, hostUnwraps}

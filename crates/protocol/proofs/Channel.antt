@@ -19,7 +19,7 @@ use Rattle.field_laws.specs.Written.{WholeBlocks}
 use Rattle.session.specs.Opening.{Keys}
 use Rattle.ciphers.specs.Ciphers.{Ciphers, Laws, IsKey, IsCounter}
 use Rattle.protocol.specs.Message.{CommandHeader, StatusWord, Message}
-use Rattle.protocol.specs.Counter.{bigEndian, commandCounter, responseCounter}
+use Rattle.counter.specs.Counter.{bigEndian, commandCounter, responseCounter}
 use Rattle.protocol.specs.Command.{commandInput}
 use Rattle.protocol.specs.Transcript.{Entry, add, messages, inputs, Direction, commands, responses, chaining, encrypted, wrapped}
 use Rattle.protocol.specs.Agreement.{Collision}

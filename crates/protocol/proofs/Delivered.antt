@@ -38,7 +38,7 @@ use Rattle.session.specs.declared.Session.{Session}
 use Rattle.ciphers.specs.Ciphers.{Ciphers, Laws, IsKey}
 use Rattle.protocol.specs.Message.{CommandHeader, StatusWord, Message, Command, Response, maxCommandData, maxResponseData, commandLimit}
 use Rattle.protocol.specs.Permission.{insPermitted, dataNeed, leNeed, commandPermitted, statusPermitted, commandWanted, responseWanted}
-use Rattle.protocol.specs.Counter.{commandCounter, responseCounter}
+use Rattle.counter.specs.Counter.{commandCounter, responseCounter}
 use Rattle.protocol.specs.Answer.{Answer, refused, gave, require_else_⨾_, _and-then_, Outcome, Out, concluded, objectsOf, textOf}
 use Rattle.protocol.specs.Command.{CommandGiven, wrapCommandChecks, unwrapCommandChecks, commandInput, commandMac, commandCiphertext, commandWrapped, commandAccepted, headerRead, hostWraps, cardUnwraps}
 use Rattle.protocol.specs.Response.{wrapResponseChecks, unwrapResponseChecks, responseMac, responseCiphertext, responseWrapped, responseAccepted, cardWraps, hostUnwraps}

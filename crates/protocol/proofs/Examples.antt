@@ -35,7 +35,7 @@ use Rattle.ciphers.specs.Aes.{dataIn}
 use Rattle.ciphers.proofs.PaddedData.{data-padded}
 use Rattle.protocol.specs.Message.{Message, Command, Response}
 use Rattle.protocol.specs.Permission.{insPermitted, leNeed, dataNeed, commandPermitted, statusPermitted, commandWanted, responseWanted}
-use Rattle.protocol.specs.Counter.{bigEndian, commandCounter, responseCounter}
+use Rattle.counter.specs.Counter.{bigEndian, commandCounter, responseCounter}
 use Rattle.protocol.specs.Answer.{Answer, refused, gave, require_else_⨾_, _and-then_, afterRefusal, concluded, objectsOf, textOf}
 use Rattle.protocol.specs.Command.{commandInput, wrapCommandChecks, unwrapCommandChecks, commandMac, commandCiphertext, commandWrapped, commandAccepted, hostWraps, cardUnwraps}
 use Rattle.protocol.specs.Response.{wrapResponseChecks, unwrapResponseChecks, responseMac, responseCiphertext, responseWrapped, responseAccepted, cardWraps, hostUnwraps}

@@ -39,7 +39,7 @@ use Rattle.session.specs.declared.Session.{Session}
 use Rattle.ciphers.specs.Ciphers.{Ciphers, Laws, IsKey}
 use Rattle.protocol.specs.Message.{CommandHeader, StatusWord, Message, Command, Response}
 use Rattle.protocol.specs.Permission.{commandWanted, responseWanted}
-use Rattle.protocol.specs.Counter.{commandCounter, responseCounter}
+use Rattle.counter.specs.Counter.{commandCounter, responseCounter}
 use Rattle.protocol.specs.Answer.{Answer, refused, gave, Out, afterRefusal}
 use Rattle.protocol.specs.Command.{CommandGiven, commandInput, commandMac, commandCiphertext, commandWrapped, commandAccepted, headerRead}
 use Rattle.protocol.specs.Response.{responseMac, responseCiphertext, responseWrapped, responseAccepted}

@@ -23,7 +23,7 @@ use Rattle.session.specs.Session.{closed, keyIn}
 use Rattle.session.specs.declared.Session.{Session}
 use Rattle.ciphers.specs.Ciphers.{Ciphers}
 use Rattle.protocol.specs.Permission.{commandWanted, responseWanted}
-use Rattle.protocol.specs.Counter.{commandCounter, responseCounter}
+use Rattle.counter.specs.Counter.{commandCounter, responseCounter}
 use Rattle.protocol.specs.Answer.{Answer, refused, gave, require_else_⨾_, _and-then_, Outcome, Out, afterRefusal, concluded, objectsOf, textOf}
 use Rattle.protocol.specs.Command.{wrapCommandChecks, unwrapCommandChecks, hostWraps, cardUnwraps}
 use Rattle.protocol.specs.Response.{wrapResponseChecks, unwrapResponseChecks, cardWraps, hostUnwraps}

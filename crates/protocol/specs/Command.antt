@@ -20,7 +20,7 @@ use Rattle.session.specs.declared.Session.{Session}
 use Rattle.ciphers.specs.Ciphers.{Ciphers}
 use Rattle.protocol.specs.Message.{CommandHeader, Message, Command, maxCommandData, maxCommandField, commandLimit}
 use Rattle.protocol.specs.Permission.{insPermitted, commandPermitted, commandWanted}
-use Rattle.protocol.specs.Counter.{commandCounter}
+use Rattle.counter.specs.Counter.{commandCounter}
 use Rattle.protocol.specs.Answer.{Answer, gave, require_else_⨾_, _and-then_, Outcome, Out, concluded, objectsOf, textOf}
 
 -- what the MAC of a command is computed over: its chaining value, its encoded header, and the field's bytes before '8E'

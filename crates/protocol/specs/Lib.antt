@@ -1,6 +1,5 @@
 pub mod Message
 pub mod Permission
-pub mod Counter
 pub mod Answer
 pub mod Command
 pub mod Response

@@ -20,7 +20,7 @@ use Rattle.session.specs.declared.Session.{Session}
 use Rattle.ciphers.specs.Ciphers.{Ciphers}
 use Rattle.protocol.specs.Message.{StatusWord, Message, Response, maxResponseData, maxResponseField}
 use Rattle.protocol.specs.Permission.{statusPermitted, responseWanted}
-use Rattle.protocol.specs.Counter.{responseCounter}
+use Rattle.counter.specs.Counter.{responseCounter}
 use Rattle.protocol.specs.Answer.{Answer, gave, require_else_⨾_, _and-then_, Outcome, Out, concluded, objectsOf, textOf}
 
 -- the tests of a wrap, of a response with n bytes of data

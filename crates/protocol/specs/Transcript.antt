@@ -20,7 +20,7 @@ use Rattle.session.specs.declared.Session.{Session}
 use Rattle.ciphers.specs.Ciphers.{Ciphers}
 use Rattle.protocol.specs.Message.{CommandHeader, StatusWord, Message, Command, Response, maxCommandData, maxResponseData}
 use Rattle.protocol.specs.Permission.{commandWanted, responseWanted}
-use Rattle.protocol.specs.Counter.{commandCounter, responseCounter}
+use Rattle.counter.specs.Counter.{commandCounter, responseCounter}
 use Rattle.protocol.specs.Answer.{Answer, refused, gave, Out}
 use Rattle.protocol.specs.Command.{CommandGiven, commandInput, headerRead, hostWraps, cardUnwraps}
 use Rattle.protocol.specs.Response.{cardWraps, hostUnwraps}
