@@ -1,6 +1,5 @@
 // The data of a message, padded and encrypted under the counter of its number (SP 800-73-4 Part 2, 4.2.2).
 use aes::encrypt_block;
-use cbc::Outcome;
 use key_schedule::KeySize;
 use octets::put_bytes;
 use padding::put_padding;
@@ -14,6 +13,8 @@ ghost use Rattle.octets.specs.Write.{over, Wrote};
 ghost use Rattle.padding.specs.Padding.{pad, paddedLength};
 ghost use Rattle.aes.specs.Aes.{ciph};
 ghost use Rattle.cbc.specs.Cbc.{cbcEncrypt};
+ghost use Rattle.session.specs.Session.{keyIn};
+ghost use Rattle.ciphers.specs.Aes.{encrypt};
 
 // CBC encryption of the first n bytes.
 fn encrypt_start(size: KeySize, w: &[[u8; 4]; 60], iv: [u8; 16], text: &mut [u8], n: usize)
@@ -30,4 +31,23 @@ fn put_padded(text: &mut [u8], data: &[u8]) -> usize
 {
     let p = put_bytes(text, 0, data);
     put_padding(text, p, data.len())
+}
+
+// The encrypted data, from index 0 on; the index behind it.
+pub fn encrypt_text(
+    suite: Suite,
+    sk_enc: [u8; 32],
+    counter: [u8; 16],
+    data: &[u8],
+    text: &mut [u8],
+) -> usize
+    requires { ⌜ (0 < length (now «data»)) × (paddedLength (length (now «data»)) ≤ length (now text)) ⌝ }
+    ensures { λ n. ⌜ Wrote (now (text .entry)) 0 (encrypt (keyIn suite «sk_enc») counter (now («data» .entry))) n (now (text .exit)) ⌝ }
+{
+    let w = expanded(suite, sk_enc);
+    let size = key_size(suite);
+    let iv = encrypt_block(size, &w, counter);
+    let n = put_padded(text, data);
+    encrypt_start(size, &w, iv, text, n);
+    n
 }

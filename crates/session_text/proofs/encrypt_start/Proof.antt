@@ -14,7 +14,7 @@ slice-aggregate-encrypt : tie.Need-slice-aggregate-encrypt
 slice-aggregate-encrypt c = sym (length-take-le (c .before .before .args .n) (c .before .before .args .text .now) (c .before .before .pre .1))
 
 returns : tie.Need-returns
-returns c = 
+returns c =
     let a = c .before .before .before .before .before .args in
     let h = c .before .before .before .before .before .pre in
     start-changed (cbcEncrypt (ciph (a .size) (a .w .now)) (a .iv)) (a .text .now) _ (a .n) (h .0) (h .1) (c .before .before .encrypt .ensures .1) (omega (arith, c .before .before .encrypt .kept, length-take-le (a .n) (a .text .now) (h .1)))

@@ -16,7 +16,7 @@ put-bytes-requires c κs = omega (arith, c .before .before .before .pre)
 
 put-padding-requires : tie.Need-put-padding-requires
 unfolding paddedLength
-put-padding-requires c κs = 
+put-padding-requires c κs =
     let w = c .before .before .before .put-bytes .ensures in
     let h = c .before .before .before .before .before .before .before .pre in
     omega (arith, h, w .end, wrote-length (omega (arith, h)) w, length-padding (length (c .before .before .before .before .before .before .before .args .«data» .now)))
