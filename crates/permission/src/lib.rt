@@ -1,0 +1,82 @@
+// Which commands and statuses are permitted (document 01, "Objects, encryption and MAC").
+use fields::Need;
+ghost use mathlib.Core.Path.{_≡_};
+ghost use Prim.Native.Nat.{_<_};
+ghost use lib.Dec.{ltb};
+ghost use Rattle.field_laws.specs.Written.{suits};
+ghost use Rattle.protocol.specs.Permission.{insPermitted, leNeed, dataNeed, commandPermitted, statusPermitted};
+
+const VERIFY: u8 = 0x20;
+
+const CHANGE_REFERENCE_DATA: u8 = 0x24;
+
+const GET_DATA: u8 = 0xCB;
+
+const GENERAL_AUTHENTICATE: u8 = 0x87;
+
+pub fn ins_permitted(ins: u8) -> bool
+    ensures { λ r. ⌜ r ≡ insPermitted ins ⌝ }
+{
+    if ins == VERIFY {
+        return true;
+    }
+    if ins == CHANGE_REFERENCE_DATA {
+        return true;
+    }
+    if ins == GET_DATA {
+        return true;
+    }
+    ins == GENERAL_AUTHENTICATE
+}
+
+// Whether a command has, may have or must not have Le.
+pub fn le_need(ins: u8) -> Need
+    ensures { λ need. ⌜ need ≡ leNeed ins ⌝ }
+{
+    if ins == GET_DATA {
+        return Need::Must;
+    }
+    if ins == GENERAL_AUTHENTICATE {
+        return Need::May;
+    }
+    Need::MustNot
+}
+
+// Only VERIFY may lack data.
+pub fn data_need(ins: u8) -> Need
+    ensures { λ need. ⌜ need ≡ dataNeed ins ⌝ }
+{
+    if ins == VERIFY {
+        return Need::May;
+    }
+    Need::Must
+}
+
+fn suits(need: Need, there: bool) -> bool
+    ensures { λ r. ⌜ r ≡ suits need there ⌝ }
+{
+    match need {
+        Need::Must => there,
+        Need::May => true,
+        Need::MustNot => !there,
+    }
+}
+
+// A command with n bytes of data.
+pub fn command_permitted(ins: u8, p1: u8, p2: u8, le: bool, n: usize) -> bool
+    ensures { λ r. ⌜ r ≡ commandPermitted (record { ins = ins; p1 = p1; p2 = p2; le = le }) n ⌝ }
+{
+    if ins_permitted(ins) {
+        if suits(data_need(ins), 0 < n) {
+            return suits(le_need(ins), le);
+        }
+    }
+    false
+}
+
+// A card may not wrap a status with SW1 '61'.
+pub fn status_permitted(sw1: u8, sw2: u8) -> bool
+    ensures { λ r. ⌜ r ≡ statusPermitted (record { sw1 = sw1; sw2 = sw2 }) ⌝ }
+{
+    sw1 != 0x61
+}
