@@ -1,0 +1,76 @@
+// The tests of wrapping and unwrapping a command, in document 01's order.
+use objects::command_length;
+use permission::command_permitted;
+use permission::ins_permitted;
+use refusal::Refusal;
+use session::Phase;
+use session::Session;
+use session::Side;
+use session::is_turn;
+use validity::counts_as_open;
+ghost use mathlib.Core.Path.{_≡_};
+ghost use Rattle.command_checks.specs.Checked.{checked};
+ghost use Rattle.protocol.specs.Command.{wrapCommandChecks, unwrapCommandChecks};
+
+pub enum Checked {
+    Passed,
+    Refused(Refusal),
+}
+
+// Of a wrap: a command with n bytes of data, and a buffer of that size.
+pub fn wrap_command_checks(
+    session: Session,
+    ins: u8,
+    p1: u8,
+    p2: u8,
+    le: bool,
+    n: usize,
+    room: usize,
+) -> Checked
+    ensures { λ r. ⌜ r ≡ checked (wrapCommandChecks session (record { ins = ins; p1 = p1; p2 = p2; le = le }) n room) ⌝ }
+{
+    let count = session.count;
+    if !counts_as_open(session) {
+        return Checked::Refused(Refusal::SessionClosed);
+    }
+    if !is_turn(Side::Host, Phase::Ready, session) {
+        return Checked::Refused(Refusal::OutOfTurn);
+    }
+    if !command_permitted(ins, p1, p2, le, n) {
+        return Checked::Refused(Refusal::NotPermitted);
+    }
+    if n > 2047 {
+        return Checked::Refused(Refusal::TooLong);
+    }
+    if count >= Session::COMMAND_LIMIT {
+        return Checked::Refused(Refusal::CommandLimit);
+    }
+    let needed = command_length(n, le);
+    if needed > room {
+        return Checked::Refused(Refusal::BufferTooSmall(needed));
+    }
+    Checked::Passed
+}
+
+// Of an unwrap: a field of n bytes.
+pub fn unwrap_command_checks(session: Session, ins: u8, n: usize) -> Checked
+    ensures { λ r. ⌜ r ≡ checked (unwrapCommandChecks session ins n) ⌝ }
+{
+    let count = session.count;
+    if !counts_as_open(session) {
+        return Checked::Refused(Refusal::SessionClosed);
+    }
+    if !is_turn(Side::Card, Phase::Ready, session) {
+        return Checked::Refused(Refusal::OutOfTurn);
+    }
+    if !ins_permitted(ins) {
+        return Checked::Refused(Refusal::NotPermitted);
+    }
+    if n > 2066 {
+        return Checked::Refused(Refusal::TooLong);
+    }
+    if count >= Session::COMMAND_LIMIT {
+        return Checked::Refused(Refusal::CommandLimit);
+    }
+    Checked::Passed
+}
