@@ -1,6 +1,6 @@
 -- Demand 2, proved: the tests pass, the field is read back, its MAC is right, and its text is what was encrypted.
 -- Assumes nothing.
-use mathlib.Core.Path.{_≡_, refl, sym, ap, ap₂, _∙_}
+use mathlib.Core.Path.{_≡_, refl, sym, ap, ap₂, _∙_, subst}
 use mathlib.Core.Bool.{Bool, true, false, _&&_}
 use mathlib.Core.List.{[]}
 use mathlib.Core.Option.{some}
@@ -27,7 +27,7 @@ use Rattle.field_laws.specs.Written.{suits, Suits, WholeBlocks, ReadsBack}
 use Rattle.field_laws.proofs.CoveredWritten.{right-size}
 use Rattle.field_laws.proofs.ReadBack.{read-command, read-response}
 use Rattle.refusal.specs.declared.Refusal.{Refusal}
-use Rattle.session.specs.Session.{commandTaken, responseTaken, keyIn}
+use Rattle.session.specs.Session.{fresh, stored, commandTaken, responseTaken, keyIn}
 use Rattle.session.specs.Turn.{sameSide, samePhase, isTurn}
 use Rattle.session.specs.declared.Side.{Side}
 use Rattle.session.specs.declared.Side.the-variants.{Host, Card}
@@ -36,6 +36,7 @@ use Rattle.session.specs.declared.Phase.the-variants.{Ready, Pending, Closed}
 use Rattle.session.specs.declared.SuiteNumber.the-variants.{Known}
 use Rattle.session.specs.declared.Session.{Session}
 use Rattle.ciphers.specs.Ciphers.{Ciphers, Laws, IsKey}
+use Rattle.ciphers.specs.Aes.{aesCiphers}
 use Rattle.protocol.specs.Message.{CommandHeader, StatusWord, Message, Command, Response, maxCommandData, maxResponseData, commandLimit}
 use Rattle.protocol.specs.Permission.{insPermitted, dataNeed, leNeed, commandPermitted, statusPermitted, commandWanted, responseWanted}
 use Rattle.counter.specs.Counter.{commandCounter, responseCounter}
@@ -45,7 +46,8 @@ use Rattle.protocol.specs.Response.{wrapResponseChecks, unwrapResponseCh
 use Rattle.protocol.specs.HonestDelivery.{InStep, Keyed, CommandDelivered, DeliversCommands, ResponseDelivered, DeliversResponses, OpensInStep}
 use Rattle.validity.proofs.KeepsTheRules.{opening-served, command-served, response-served}
 use Rattle.protocol.proofs.Channel.{command-lawful, response-lawful}
-use Rattle.protocol.proofs.Runs.{Fresh, opened}
+use Rattle.protocol.proofs.Invariant.{AreKeys, Live}
+use Rattle.protocol.proofs.Runs.{Fresh, opened, are-keys, fresh-live}
 
 pass : {A : Type 0} (ok : Bool) (r : Refusal) (rest a : Answer A) → ok ≡ true → rest ≡ a → (require ok else r ⨾ rest) ≡ a
 unfolding require_else_⨾_
@@ -238,6 +240,8 @@ module _ (C : Ciphers) (L : Laws C) (h c : Session) (m : Command) (wrapRoom unwr
               command-mcvs = refl;
               response-mcvs = step .response-mcvs;
             };
+        keyed = record { enc = keyed .enc; mac = keyed .mac; rmac = keyed .rmac };
+        counted = refl;
       }
 
 -- ---- a response
@@ -366,6 +370,8 @@ module _ (C : Ciphers) (L : Laws C) (h c : Session) (m : Response) (wrapRoom unw
               command-mcvs = step .command-mcvs;
               response-mcvs = refl;
             };
+        keyed = record { enc = keyed .enc; mac = keyed .mac; rmac = keyed .rmac };
+        counted = refl;
       }
 
 pub delivers-commands : (C : Ciphers) → Laws C → DeliversCommands C
@@ -377,12 +383,14 @@ delivers-responses C L h c m wrapRoom unwrapRoom step keyed permitted fits bytes
     response-delivered C L h c m wrapRoom unwrapRoom step keyed permitted fits bytes wrapFits unwrapFits
 
 pub opens-in-step : OpensInStep
-opens-in-step n K oh oc =
+opens-in-step n K y oh oc =
     let h : Fresh Host n K = opened Host n K oh in
     let c : Fresh Card n K = opened Card n K oc in
     let k : Known (c .suite) ≡ Known (h .suite) = sym (c .known) ∙ h .known in
     let s : c .suite ≡ h .suite = cc in
-    record {
+    let g : AreKeys K = are-keys (h .suite) K y (h .fits) in
+    let l : Live aesCiphers K Host (fresh Host (h .suite) (stored (K .enc)) (stored (K .mac)) (stored (K .rmac))) [] [] = fresh-live aesCiphers K Host (h .suite) (h .fits) in
+    (record {
       host-open = opening-served Host n K oh;
       card-open = opening-served Card n K oc;
       host-side = ap (λ (t : Session). t .side) (h .is);
@@ -396,4 +404,9 @@ opens-in-step n K oh oc =
       rmacs = ap (λ (t : Session). t .«sk_rmac») (c .is) ∙ sym (ap (λ (t : Session). t .«sk_rmac») (h .is));
       command-mcvs = ap (λ (t : Session). t .«command_mcv») (c .is) ∙ sym (ap (λ (t : Session). t .«command_mcv») (h .is));
       response-mcvs = ap (λ (t : Session). t .«response_mcv») (c .is) ∙ sym (ap (λ (t : Session). t .«response_mcv») (h .is));
-    }
+    },
+    (record {
+      enc = subst IsKey (sym (ap (λ (t : Session). keyIn (t .suite) (t .«sk_enc»)) (h .is) ∙ l .enc-is)) (g .enc);
+      mac = subst IsKey (sym (ap (λ (t : Session). keyIn (t .suite) (t .«sk_mac»)) (h .is) ∙ l .mac-is)) (g .mac);
+      rmac = subst IsKey (sym (ap (λ (t : Session). keyIn (t .suite) (t .«sk_rmac»)) (h .is) ∙ l .rmac-is)) (g .rmac);
+    }, ap (λ (t : Session). t .count) (h .is)))

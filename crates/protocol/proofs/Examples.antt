@@ -8,8 +8,10 @@ use mathlib.Core.List.{List, [], _∷_, _++_, foldr, map, List·Memᴰ, List·Me
 use mathlib.Core.Option.{Option, none, some}
 use Prim.Native.Nat.{ℕ, zero, suc, _+_, _*_, _/_, _%_, _<_}
 use native.Mathlib.Omega.{arith}
-use borrow.Author.Tests.{eqb-true, eqb-false, ne-eqb}
-use lib.Dec.{eqb}
+use Rattle.ciphers.proofs.ByteLists.{bytes-nil, bytes-cons}
+use Rattle.protocol.proofs.Runs.{agreement}
+use borrow.Author.Tests.{ltb-true, eqb-true, eqb-false, ne-eqb}
+use lib.Dec.{eqb, ltb}
 use lib.ListN.{length, replicate, getD, take, length-map}
 use Rattle.octets.proofs.Tests.{both}
 use Rattle.octets.specs.Bytes.{Bytes, IsBytes, zeros, _⊕_}
@@ -40,7 +42,7 @@ use Rattle.protocol.specs.Answer.{Answer, refused, gave, require_else_�
 use Rattle.protocol.specs.Command.{commandInput, wrapCommandChecks, unwrapCommandChecks, commandMac, commandCiphertext, commandWrapped, commandAccepted, hostWraps, cardUnwraps}
 use Rattle.protocol.specs.Response.{wrapResponseChecks, unwrapResponseChecks, responseMac, responseCiphertext, responseWrapped, responseAccepted, cardWraps, hostUnwraps}
 use Rattle.protocol.specs.Transcript.{Call, wrapCommand, unwrapCommand, wrapResponse, unwrapResponse, close, messages, inputs, Transcript, lastMac, chaining, encrypted, wrapped, received, acceptedCommand, acceptedResponse, noted, entered, State, moved, does, step, run, start}
-use Rattle.protocol.specs.Agreement.{Agrees, chainingValues, Collision, MacBreak, Excepted}
+use Rattle.protocol.specs.Agreement.{Agrees, chainingValues, Collision, MacBreak, Excepted, AllBytes}
 
 -- ---- toy ciphers
 
@@ -262,6 +264,20 @@ response-again =
     let again = unwrapResponse Host (okay .header) (fieldOf (cardWraps toy (st .card) okay 20000 .answer)) 20000 ∷ [] in
     first ++ again ++ exchange toy (run toy keys begin (first ++ again)) verify okay
 
+-- the same, then calls at the wrong end, both closings, and a call after them
+mixed : List Call
+mixed =
+    response-again ++ wrapCommand Card verify 3000 ∷ unwrapResponse Card (okay .header) [] 0 ∷ close Host ∷ close Card ∷ wrapCommand Host verify 3000 ∷ []
+
+allBytes : Bytes → Bool
+allBytes [] = true
+allBytes (b ∷ bs) = ltb b 256 && allBytes bs
+
+are-bytes : (xs : Bytes) → allBytes xs ≡ true → IsBytes xs
+unfolding allBytes
+are-bytes [] e = bytes-nil
+are-bytes (b ∷ bs) e = let h = both (ltb b 256) (allBytes bs) e in bytes-cons b bs (ltb-true b 256 (h .0)) (are-bytes bs (h .1))
+
 abbrev Broken : List Call → Type 0
 Broken calls = Agrees flat keys (run flat keys begin calls .transcript) → ⊥
 
@@ -299,13 +315,16 @@ record Computed : Type 0 where
   -- a wrong MAC is refused; a repeated response is, and what follows is accepted
   mac-refused : counts (run toy keys begin mac-changed .transcript) ≡ 1 ∷ 1 ∷ 1 ∷ 0 ∷ []
   repetition-refused : counts (run toy keys begin response-again .transcript) ≡ 2 ∷ 2 ∷ 2 ∷ 2 ∷ []
+  mixed-not-excepted : Excepted toy keys begin mixed → ⊥
+  mixed-counted : counts (run toy keys begin mixed .transcript) ≡ 2 ∷ 2 ∷ 2 ∷ 2 ∷ []
+  mixed-agrees : Agrees toy keys (run toy keys begin mixed .transcript)
   -- w above r, and the two causes of an exception
   w-above-r : Agrees toy keys (run toy keys begin one-wrapped .transcript)
   new-input : Excepted toy keys begin never-wrapped
   same-chaining-value : Excepted flat keys begin repeated
 
 computed : Computed
-unfolding toyMac xorAll toyEncrypt toyDecrypt toy keys verify getData okay certificate fieldOf begin exchange two counts same padding pad paddedLength marked markBefore unpad lengthField readLength isShortest rank allowed rightSize rightSecond rightValue need_else_⨾_ withLength readObject notedObject ended onObject walk readField object encryptedData leObject statusWord macObject commandObjects responseObjects commandField responseField ciphertextLength encryptedDataLength commandLength responseLength encodedHeader commandMacInput responseMacInput allZero keysEnd keysZero mcvsZero keepsPhase valid countsAsOpen isTurn keysFit openSuite opening dataIn insPermitted leNeed dataNeed commandPermitted statusPermitted commandWanted responseWanted bigEndian commandCounter responseCounter require_else_⨾_ _and-then_ afterRefusal concluded objectsOf textOf commandInput wrapCommandChecks unwrapCommandChecks commandMac commandCiphertext commandWrapped commandAccepted hostWraps cardUnwraps wrapResponseChecks unwrapResponseChecks responseMac responseCiphertext responseWrapped responseAccepted cardWraps hostUnwraps lastMac chaining encrypted wrapped received acceptedCommand acceptedResponse noted entered moved does step run flat among distinct chainingValues forged received-as other-header other-data authenticate with-le more-commands more-responses header-changed data-changed le-changed status-changed one-wrapped never-wrapped check repeated mac-changed response-again p2Of sizeOf leOf sw1Of
+unfolding toyMac xorAll toyEncrypt toyDecrypt toy keys verify getData okay certificate fieldOf begin exchange two counts same padding pad paddedLength marked markBefore unpad lengthField readLength isShortest rank allowed rightSize rightSecond rightValue need_else_⨾_ withLength readObject notedObject ended onObject walk readField object encryptedData leObject statusWord macObject commandObjects responseObjects commandField responseField ciphertextLength encryptedDataLength commandLength responseLength encodedHeader commandMacInput responseMacInput allZero keysEnd keysZero mcvsZero keepsPhase valid countsAsOpen isTurn keysFit openSuite opening dataIn insPermitted leNeed dataNeed commandPermitted statusPermitted commandWanted responseWanted bigEndian commandCounter responseCounter require_else_⨾_ _and-then_ afterRefusal concluded objectsOf textOf commandInput wrapCommandChecks unwrapCommandChecks commandMac commandCiphertext commandWrapped commandAccepted hostWraps cardUnwraps wrapResponseChecks unwrapResponseChecks responseMac responseCiphertext responseWrapped responseAccepted cardWraps hostUnwraps lastMac chaining encrypted wrapped received acceptedCommand acceptedResponse noted entered moved does step run flat among distinct chainingValues forged received-as other-header other-data authenticate with-le more-commands more-responses header-changed data-changed le-changed status-changed one-wrapped never-wrapped check repeated mac-changed response-again mixed allBytes p2Of sizeOf leOf sw1Of
 computed =
     record {
       counted = refl;
@@ -320,6 +339,9 @@ computed =
       status-differs = λ v. let e : _≡_ {A = ℕ} 0x6A 0x90 = ap sw1Of (v .responsesAgree) in omega (arith, e);
       mac-refused = refl;
       repetition-refused = refl;
+      mixed-not-excepted = not-mixed;
+      mixed-counted = refl;
+      mixed-agrees = held;
       w-above-r =
           record {
             r≤s = omega arith;
@@ -345,3 +367,28 @@ computed =
     never (inr (inr (inr (inr (inr (inr (inl x))))))) = x
     never (inr (inr (inr (inr (inr (inr (inr (inl b)))))))) = sound toy (keys .rmac) _ _ _ b refl refl
     never (inr (inr (inr (inr (inr (inr (inr (inr x)))))))) = x
+
+    not-mixed : Excepted toy keys begin mixed → ⊥
+    not-mixed (inl x) = x
+    not-mixed (inr (inl b)) = sound toy (keys .mac) _ _ _ b refl refl
+    not-mixed (inr (inr (inl x))) = x
+    not-mixed (inr (inr (inr (inl b)))) = sound toy (keys .rmac) _ _ _ b refl refl
+    not-mixed (inr (inr (inr (inr (inl x))))) = x
+    not-mixed (inr (inr (inr (inr (inr (inl x)))))) = x
+    not-mixed (inr (inr (inr (inr (inr (inr (inl b))))))) = sound toy (keys .mac) _ _ _ b refl refl
+    not-mixed (inr (inr (inr (inr (inr (inr (inr (inl x)))))))) = x
+    not-mixed (inr (inr (inr (inr (inr (inr (inr (inr (inl b))))))))) = sound toy (keys .rmac) _ _ _ b refl refl
+    not-mixed (inr (inr (inr (inr (inr (inr (inr (inr (inr (inl x)))))))))) = x
+    not-mixed (inr (inr (inr (inr (inr (inr (inr (inr (inr (inr (inl x))))))))))) = x
+    not-mixed (inr (inr (inr (inr (inr (inr (inr (inr (inr (inr (inr (inl x)))))))))))) = x
+    not-mixed (inr (inr (inr (inr (inr (inr (inr (inr (inr (inr (inr (inr (inl x))))))))))))) = x
+    not-mixed (inr (inr (inr (inr (inr (inr (inr (inr (inr (inr (inr (inr (inr (inl x)))))))))))))) = x
+    not-mixed (inr (inr (inr (inr (inr (inr (inr (inr (inr (inr (inr (inr (inr (inr x)))))))))))))) = x
+
+    sent : AllBytes mixed
+    sent = (are-bytes [] refl, (tt, (are-bytes [] refl, (tt, (tt, (are-bytes (verify .payload) refl, (tt, (are-bytes [] refl, (tt, (are-bytes (verify .payload) refl, (tt, (tt, (tt, (are-bytes (verify .payload) refl, tt))))))))))))))
+
+    held : Agrees toy keys (run toy keys begin mixed .transcript)
+    held =
+        elim (agreement toy toy-laws 2 2 keys (record { enc = are-bytes (keys .enc) refl; mac = are-bytes (keys .mac) refl; rmac = are-bytes (keys .rmac) refl }) refl refl mixed sent 14)
+        [ inl a ↦ a | inr e ↦ absurd (not-mixed e) ]

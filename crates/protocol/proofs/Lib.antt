@@ -1,3 +1,4 @@
+pub mod Answers
 pub mod Examples
 pub mod Logs
 pub mod Channel

@@ -171,7 +171,7 @@ key-size : (suite : Suite) (k : Bytes) → length k ≡ keyLength suite → (len
 key-size Cs2 k e = inl e
 key-size Cs7 k e = inr e
 
-are-keys : (suite : Suite) (K : Keys) → KeyBytes K → keysFit (keyLength suite) K ≡ true → AreKeys K
+pub are-keys : (suite : Suite) (K : Keys) → KeyBytes K → keysFit (keyLength suite) K ≡ true → AreKeys K
 are-keys suite K y e =
     let s = sizes (keyLength suite) K e in
     record {
@@ -180,7 +180,7 @@ are-keys suite K y e =
       rmac = record { bytes = y .rmac; size = key-size suite (K .rmac) (s .1 .1) };
     }
 
-fresh-live : (C : Ciphers) (K : Keys) (side : Side) (suite : Suite) → keysFit (keyLength suite) K ≡ true
+pub fresh-live : (C : Ciphers) (K : Keys) (side : Side) (suite : Suite) → keysFit (keyLength suite) K ≡ true
     → Live C K side (fresh side suite (stored (K .enc)) (stored (K .mac)) (stored (K .rmac))) [] []
 unfolding chaining lastMac
 fresh-live C K side suite e =

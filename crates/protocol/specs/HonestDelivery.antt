@@ -2,7 +2,7 @@
 -- header, Le (or its absence) and status." Assumes nothing.
 use mathlib.Core.Path.{_≡_}
 use mathlib.Core.Bool.{true}
-use Prim.Native.Nat.{ℕ, _≤_, _<_}
+use Prim.Native.Nat.{ℕ, _+_, _≤_, _<_}
 use lib.ListN.{length}
 use Rattle.octets.specs.Bytes.{Bytes, IsBytes}
 use Rattle.objects.specs.Lengths.{ciphertextLength, commandLength, responseLength}
@@ -20,6 +20,7 @@ use Rattle.protocol.specs.Permission.{commandPermitted, statusPermitted}
 use Rattle.protocol.specs.Answer.{gave, Out}
 use Rattle.protocol.specs.Command.{CommandGiven, hostWraps, cardUnwraps}
 use Rattle.protocol.specs.Response.{cardWraps, hostUnwraps}
+use Rattle.protocol.specs.Agreement.{KeyBytes}
 
 -- two sessions in step: a host's and a card's, open, in one phase, with the same suite, keys, count and chaining values
 pub record InStep (phase : Phase) (h c : Session) : Type 0 where
@@ -37,7 +38,7 @@ pub record InStep (phase : Phase) (h c : Session) : Type 0 where
   pub command-mcvs : c .«command_mcv» ≡ h .«command_mcv»
   pub response-mcvs : c .«response_mcv» ≡ h .«response_mcv»
 
--- the keys in a session are bytes
+-- the keys in a session are bytes, as many as its suite asks
 pub record Keyed (s : Session) : Type 0 where
   pub enc : IsKey (keyIn (s .suite) (s .«sk_enc»))
   pub mac : IsKey (keyIn (s .suite) (s .«sk_mac»))
@@ -53,6 +54,8 @@ pub record CommandDelivered (C : Ciphers) (h c : Session) (m : Command) (wrapRoo
   pub unwraps : cardUnwraps C c (m .header .ins) (m .header .p1) (m .header .p2) field unwrapRoom
       ≡ record { answer = gave (record { payload = m .payload; le = m .header .le }); next = card }
   pub again : InStep Pending host card
+  pub keyed : Keyed host
+  pub counted : host .count ≡ h .count + 1
 
 abbrev pub DeliversCommands : Ciphers → Type 0
 DeliversCommands C =
@@ -71,6 +74,8 @@ pub record ResponseDelivered (C : Ciphers) (h c : Session) (m : Response) (wrapR
   pub wraps : cardWraps C c m wrapRoom ≡ record { answer = gave field; next = card }
   pub unwraps : hostUnwraps C h (m .header) field unwrapRoom ≡ record { answer = gave m; next = host }
   pub again : InStep Ready host card
+  pub keyed : Keyed host
+  pub counted : host .count ≡ h .count
 
 abbrev pub DeliversResponses : Ciphers → Type 0
 DeliversResponses C =
@@ -80,9 +85,10 @@ DeliversResponses C =
     → responseLength (length (m .payload)) ≤ wrapRoom → ciphertextLength (length (m .payload)) ≤ unwrapRoom
     → ResponseDelivered C h c m wrapRoom unwrapRoom
 
--- ---- it begins: two openings with the same suite and keys are in step
+-- ---- it begins: two openings with the same suite and keys are in step, at count 0
 
 abbrev pub OpensInStep : Type 0
 OpensInStep =
-    (suite : ℕ) (K : Keys) → opening Host suite K .answer ≡ Done → opening Card suite K .answer ≡ Done
+    (suite : ℕ) (K : Keys) → KeyBytes K → opening Host suite K .answer ≡ Done → opening Card suite K .answer ≡ Done
     → InStep Ready (opening Host suite K .session) (opening Card suite K .session)
+    × (Keyed (opening Host suite K .session) × (opening Host suite K .session .count ≡ 0))
