@@ -9,12 +9,13 @@ use native.Mathlib.Omega.{arith}
 use borrow.Author.Tests.{eq-eqb, ne-eqb, eqb-true, eqb-false}
 use lib.Dec.{eqb}
 use lib.ListN.{length}
-use Rattle.octets.specs.Bytes.{Bytes, IsBytes}
+use Rattle.octets.specs.Bytes.{Bytes, IsBytes, zeros}
 use Rattle.octets.specs.Choice.{if_then_else_}
 use Rattle.padding.specs.Padding.{pad, paddedLength, unpad}
 use Rattle.padding.proofs.Lengths.{length-pad}
 use Rattle.objects.specs.Lengths.{ciphertextLength}
 use Rattle.key_expansion.specs.KeyExpansion.{schedule}
+use Rattle.key_schedule.specs.declared.KeySize.the-variants.{Aes128, Aes256}
 use Rattle.aes.specs.Aes.{aes, invAes}
 use Rattle.aes.specs.BlockCipher.{IsBlock, BlockCipher}
 use Rattle.aes.proofs.Block.{length-ciph}
@@ -74,3 +75,12 @@ mac-length k m = length-cmac (ciph k) (λ x. length-ciph (sizeOf k) (schedule (s
 pub aes-laws : Laws aesCiphers
 unfolding aesCiphers
 aes-laws = record { mac-length = λ k m key. mac-length k m; encrypt-length = encrypted-length; decrypt-encrypt = decrypted }
+
+-- the AES of each key length
+of-16-bytes : sizeOf (zeros 16) ≡ Aes128
+unfolding sizeOf
+of-16-bytes = refl
+
+of-32-bytes : sizeOf (zeros 32) ≡ Aes256
+unfolding sizeOf
+of-32-bytes = refl

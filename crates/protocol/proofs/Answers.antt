@@ -45,9 +45,15 @@ numbers (gave a) = []
 at : Side → Phase → ℕ → Session
 at side phase n =
     record {
-      side = side; phase = phase; suite = Cs2; count = n;
-      «sk_enc» = replicate 16 1 ++ zeros 16; «sk_mac» = replicate 16 2 ++ zeros 16; «sk_rmac» = replicate 16 3 ++ zeros 16;
-      «command_mcv» = zeros 16; «response_mcv» = zeros 16;
+      side = side;
+      phase = phase;
+      suite = Cs2;
+      count = n;
+      «sk_enc» = replicate 16 1 ++ zeros 16;
+      «sk_mac» = replicate 16 2 ++ zeros 16;
+      «sk_rmac» = replicate 16 3 ++ zeros 16;
+      «command_mcv» = zeros 16;
+      «response_mcv» = zeros 16;
     }
 
 head : ℕ → Bool → CommandHeader
@@ -138,11 +144,50 @@ answered : Answered
 unfolding numbers at head bad sw field reply phaseOf card host same padding pad paddedLength marked markBefore unpad lengthField readLength isShortest rank allowed rightSize rightSecond rightValue need_else_⨾_ withLength readObject notedObject ended onObject walk readField object encryptedData leObject statusWord macObject commandObjects responseObjects commandField responseField ciphertextLength encryptedDataLength commandLength responseLength encodedHeader commandMacInput responseMacInput allZero keysEnd keysZero mcvsZero keepsPhase valid countsAsOpen isTurn insPermitted leNeed dataNeed commandPermitted statusPermitted commandWanted responseWanted bigEndian commandCounter responseCounter require_else_⨾_ _and-then_ afterRefusal concluded objectsOf textOf commandInput wrapCommandChecks unwrapCommandChecks commandMac commandAccepted cardUnwraps wrapResponseChecks unwrapResponseChecks responseMac responseAccepted hostUnwraps
 answered =
     record {
-      counter-1 = refl; counter-258 = refl; response-258 = refl; permits = refl;
-      w1 = refl; w2 = refl; w3 = refl; w4 = refl; w5 = refl; w6 = refl; w = refl;
-      u1 = refl; u2 = refl; u3 = refl; u4 = refl; u5 = refl; u = refl; u7 = refl; u8 = refl; u7-le = refl; u8-le = refl; u8-data = refl; u6 = refl; u9 = refl; u10 = refl;
-      u6-left = refl; u9-left = refl; u10-left = refl;
-      v1 = refl; v2 = refl; v3 = refl; v4 = refl; v6 = refl; v = refl;
-      x1 = refl; x2 = refl; x13 = refl; x4 = refl; x = refl; x7 = refl; x8 = refl; x6 = refl; x9 = refl; x10 = refl;
-      x9-left = refl; x10-left = refl;
+      counter-1 = refl;
+      counter-258 = refl;
+      response-258 = refl;
+      permits = refl;
+      w1 = refl;
+      w2 = refl;
+      w3 = refl;
+      w4 = refl;
+      w5 = refl;
+      w6 = refl;
+      w = refl;
+      u1 = refl;
+      u2 = refl;
+      u3 = refl;
+      u4 = refl;
+      u5 = refl;
+      u = refl;
+      u7 = refl;
+      u8 = refl;
+      u7-le = refl;
+      u8-le = refl;
+      u8-data = refl;
+      u6 = refl;
+      u9 = refl;
+      u10 = refl;
+      u6-left = refl;
+      u9-left = refl;
+      u10-left = refl;
+      v1 = refl;
+      v2 = refl;
+      v3 = refl;
+      v4 = refl;
+      v6 = refl;
+      v = refl;
+      x1 = refl;
+      x2 = refl;
+      x13 = refl;
+      x4 = refl;
+      x = refl;
+      x7 = refl;
+      x8 = refl;
+      x6 = refl;
+      x9 = refl;
+      x10 = refl;
+      x9-left = refl;
+      x10-left = refl;
     }

@@ -389,24 +389,28 @@ opens-in-step n K y oh oc =
     let k : Known (c .suite) ≡ Known (h .suite) = sym (c .known) ∙ h .known in
     let s : c .suite ≡ h .suite = cc in
     let g : AreKeys K = are-keys (h .suite) K y (h .fits) in
-    let l : Live aesCiphers K Host (fresh Host (h .suite) (stored (K .enc)) (stored (K .mac)) (stored (K .rmac))) [] [] = fresh-live aesCiphers K Host (h .suite) (h .fits) in
-    (record {
-      host-open = opening-served Host n K oh;
-      card-open = opening-served Card n K oc;
-      host-side = ap (λ (t : Session). t .side) (h .is);
-      card-side = ap (λ (t : Session). t .side) (c .is);
-      host-phase = ap (λ (t : Session). t .phase) (h .is);
-      card-phase = ap (λ (t : Session). t .phase) (c .is);
-      suites = ap (λ (t : Session). t .suite) (c .is) ∙ s ∙ sym (ap (λ (t : Session). t .suite) (h .is));
-      counts = ap (λ (t : Session). t .count) (c .is) ∙ sym (ap (λ (t : Session). t .count) (h .is));
-      encs = ap (λ (t : Session). t .«sk_enc») (c .is) ∙ sym (ap (λ (t : Session). t .«sk_enc») (h .is));
-      macs = ap (λ (t : Session). t .«sk_mac») (c .is) ∙ sym (ap (λ (t : Session). t .«sk_mac») (h .is));
-      rmacs = ap (λ (t : Session). t .«sk_rmac») (c .is) ∙ sym (ap (λ (t : Session). t .«sk_rmac») (h .is));
-      command-mcvs = ap (λ (t : Session). t .«command_mcv») (c .is) ∙ sym (ap (λ (t : Session). t .«command_mcv») (h .is));
-      response-mcvs = ap (λ (t : Session). t .«response_mcv») (c .is) ∙ sym (ap (λ (t : Session). t .«response_mcv») (h .is));
-    },
-    (record {
-      enc = subst IsKey (sym (ap (λ (t : Session). keyIn (t .suite) (t .«sk_enc»)) (h .is) ∙ l .enc-is)) (g .enc);
-      mac = subst IsKey (sym (ap (λ (t : Session). keyIn (t .suite) (t .«sk_mac»)) (h .is) ∙ l .mac-is)) (g .mac);
-      rmac = subst IsKey (sym (ap (λ (t : Session). keyIn (t .suite) (t .«sk_rmac»)) (h .is) ∙ l .rmac-is)) (g .rmac);
-    }, ap (λ (t : Session). t .count) (h .is)))
+    let l : Live aesCiphers K Host (fresh Host (h .suite) (stored (K .enc)) (stored (K .mac)) (stored (K .rmac))) [] [] = fresh-live aesCiphers K Host (h .suite) (h .fits) in (
+      record {
+        host-open = opening-served Host n K oh;
+        card-open = opening-served Card n K oc;
+        host-side = ap (λ (t : Session). t .side) (h .is);
+        card-side = ap (λ (t : Session). t .side) (c .is);
+        host-phase = ap (λ (t : Session). t .phase) (h .is);
+        card-phase = ap (λ (t : Session). t .phase) (c .is);
+        suites = ap (λ (t : Session). t .suite) (c .is) ∙ s ∙ sym (ap (λ (t : Session). t .suite) (h .is));
+        counts = ap (λ (t : Session). t .count) (c .is) ∙ sym (ap (λ (t : Session). t .count) (h .is));
+        encs = ap (λ (t : Session). t .«sk_enc») (c .is) ∙ sym (ap (λ (t : Session). t .«sk_enc») (h .is));
+        macs = ap (λ (t : Session). t .«sk_mac») (c .is) ∙ sym (ap (λ (t : Session). t .«sk_mac») (h .is));
+        rmacs = ap (λ (t : Session). t .«sk_rmac») (c .is) ∙ sym (ap (λ (t : Session). t .«sk_rmac») (h .is));
+        command-mcvs = ap (λ (t : Session). t .«command_mcv») (c .is) ∙ sym (ap (λ (t : Session). t .«command_mcv») (h .is));
+        response-mcvs = ap (λ (t : Session). t .«response_mcv») (c .is) ∙ sym (ap (λ (t : Session). t .«response_mcv») (h .is));
+      },
+      (
+        record {
+          enc = subst IsKey (sym (ap (λ (t : Session). keyIn (t .suite) (t .«sk_enc»)) (h .is) ∙ l .enc-is)) (g .enc);
+          mac = subst IsKey (sym (ap (λ (t : Session). keyIn (t .suite) (t .«sk_mac»)) (h .is) ∙ l .mac-is)) (g .mac);
+          rmac = subst IsKey (sym (ap (λ (t : Session). keyIn (t .suite) (t .«sk_rmac»)) (h .is) ∙ l .rmac-is)) (g .rmac);
+        },
+        ap (λ (t : Session). t .count) (h .is),
+      ),
+    )

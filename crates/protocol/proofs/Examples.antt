@@ -35,13 +35,13 @@ use Rattle.session.specs.declared.Side.the-variants.{Host, Card}
 use Rattle.ciphers.specs.Ciphers.{Ciphers, Laws, IsKey, IsCounter}
 use Rattle.ciphers.specs.Aes.{dataIn}
 use Rattle.ciphers.proofs.PaddedData.{data-padded}
-use Rattle.protocol.specs.Message.{Message, Command, Response}
+use Rattle.protocol.specs.Message.{CommandHeader, StatusWord, Message, Command, Response}
 use Rattle.protocol.specs.Permission.{insPermitted, leNeed, dataNeed, commandPermitted, statusPermitted, commandWanted, responseWanted}
 use Rattle.counter.specs.Counter.{bigEndian, commandCounter, responseCounter}
 use Rattle.protocol.specs.Answer.{Answer, refused, gave, require_else_⨾_, _and-then_, afterRefusal, concluded, objectsOf, textOf}
 use Rattle.protocol.specs.Command.{commandInput, wrapCommandChecks, unwrapCommandChecks, commandMac, commandCiphertext, commandWrapped, commandAccepted, hostWraps, cardUnwraps}
 use Rattle.protocol.specs.Response.{wrapResponseChecks, unwrapResponseChecks, responseMac, responseCiphertext, responseWrapped, responseAccepted, cardWraps, hostUnwraps}
-use Rattle.protocol.specs.Transcript.{Call, wrapCommand, unwrapCommand, wrapResponse, unwrapResponse, close, messages, inputs, Transcript, lastMac, chaining, encrypted, wrapped, received, acceptedCommand, acceptedResponse, noted, entered, State, moved, does, step, run, start}
+use Rattle.protocol.specs.Transcript.{Call, wrapCommand, unwrapCommand, wrapResponse, unwrapResponse, close, Entry, messages, inputs, Transcript, lastMac, chaining, encrypted, wrapped, received, acceptedCommand, acceptedResponse, noted, entered, State, moved, does, step, run, start}
 use Rattle.protocol.specs.Agreement.{Agrees, chainingValues, Collision, MacBreak, Excepted, AllBytes}
 
 -- ---- toy ciphers
@@ -278,6 +278,32 @@ unfolding allBytes
 are-bytes [] e = bytes-nil
 are-bytes (b ∷ bs) e = let h = both (ltb b 256) (allBytes bs) e in bytes-cons b bs (ltb-true b 256 (h .0)) (are-bytes bs (h .1))
 
+-- a certificate under another's status, with the constant MAC
+response-data-changed : List Call
+response-data-changed =
+    wrapCommand Host check 3000 ∷ received-as check check ∷ wrapResponse Card okay 3000
+    ∷ unwrapResponse Host (okay .header) (responseField (toyEncrypt [] (responseCounter 1) (0x07 ∷ [])) 0x90 0x00 (zeros 8)) 3000 ∷ []
+
+-- transcripts that no run leads to
+entry : Entry CommandHeader
+entry = record { message = check; input = [] }
+
+reply : Entry StatusWord
+reply = record { message = okay; input = [] }
+
+two-outstanding : Transcript
+two-outstanding =
+    record { commandsWrapped = entry ∷ entry ∷ []; commandFields = []; commandsAccepted = []; responsesWrapped = []; responseFields = []; responsesAccepted = [] }
+
+answer-to-nothing : Transcript
+answer-to-nothing =
+    record { commandsWrapped = entry ∷ []; commandFields = []; commandsAccepted = []; responsesWrapped = reply ∷ []; responseFields = []; responsesAccepted = [] }
+
+-- the data's length of the first response
+dataOf : List Response → ℕ
+dataOf [] = 0
+dataOf (m ∷ ms) = length (m .payload)
+
 abbrev Broken : List Call → Type 0
 Broken calls = Agrees flat keys (run flat keys begin calls .transcript) → ⊥
 
@@ -312,6 +338,13 @@ record Computed : Type 0 where
   data-differs : Broken data-changed
   le-differs : Broken le-changed
   status-differs : Broken status-changed
+  response-data-differs : Broken response-data-changed
+  -- the constant MAC accepts a command twice, which only equal chaining values except
+  repeated-differs : Broken repeated
+  at-most-one-outstanding : Agrees toy keys two-outstanding → ⊥
+  no-answer-to-nothing : Agrees toy keys answer-to-nothing → ⊥
+  -- eight wrong bytes break nothing
+  wrong-mac : MacBreak toy (keys .mac) [] [] (zeros 8) → ⊥
   -- a wrong MAC is refused; a repeated response is, and what follows is accepted
   mac-refused : counts (run toy keys begin mac-changed .transcript) ≡ 1 ∷ 1 ∷ 1 ∷ 0 ∷ []
   repetition-refused : counts (run toy keys begin response-again .transcript) ≡ 2 ∷ 2 ∷ 2 ∷ 2 ∷ []
@@ -324,7 +357,7 @@ record Computed : Type 0 where
   same-chaining-value : Excepted flat keys begin repeated
 
 computed : Computed
-unfolding toyMac xorAll toyEncrypt toyDecrypt toy keys verify getData okay certificate fieldOf begin exchange two counts same padding pad paddedLength marked markBefore unpad lengthField readLength isShortest rank allowed rightSize rightSecond rightValue need_else_⨾_ withLength readObject notedObject ended onObject walk readField object encryptedData leObject statusWord macObject commandObjects responseObjects commandField responseField ciphertextLength encryptedDataLength commandLength responseLength encodedHeader commandMacInput responseMacInput allZero keysEnd keysZero mcvsZero keepsPhase valid countsAsOpen isTurn keysFit openSuite opening dataIn insPermitted leNeed dataNeed commandPermitted statusPermitted commandWanted responseWanted bigEndian commandCounter responseCounter require_else_⨾_ _and-then_ afterRefusal concluded objectsOf textOf commandInput wrapCommandChecks unwrapCommandChecks commandMac commandCiphertext commandWrapped commandAccepted hostWraps cardUnwraps wrapResponseChecks unwrapResponseChecks responseMac responseCiphertext responseWrapped responseAccepted cardWraps hostUnwraps lastMac chaining encrypted wrapped received acceptedCommand acceptedResponse noted entered moved does step run flat among distinct chainingValues forged received-as other-header other-data authenticate with-le more-commands more-responses header-changed data-changed le-changed status-changed one-wrapped never-wrapped check repeated mac-changed response-again mixed allBytes p2Of sizeOf leOf sw1Of
+unfolding toyMac xorAll toyEncrypt toyDecrypt toy keys verify getData okay certificate fieldOf begin exchange two counts same padding pad paddedLength marked markBefore unpad lengthField readLength isShortest rank allowed rightSize rightSecond rightValue need_else_⨾_ withLength readObject notedObject ended onObject walk readField object encryptedData leObject statusWord macObject commandObjects responseObjects commandField responseField ciphertextLength encryptedDataLength commandLength responseLength encodedHeader commandMacInput responseMacInput allZero keysEnd keysZero mcvsZero keepsPhase valid countsAsOpen isTurn keysFit openSuite opening dataIn insPermitted leNeed dataNeed commandPermitted statusPermitted commandWanted responseWanted bigEndian commandCounter responseCounter require_else_⨾_ _and-then_ afterRefusal concluded objectsOf textOf commandInput wrapCommandChecks unwrapCommandChecks commandMac commandCiphertext commandWrapped commandAccepted hostWraps cardUnwraps wrapResponseChecks unwrapResponseChecks responseMac responseCiphertext responseWrapped responseAccepted cardWraps hostUnwraps lastMac chaining encrypted wrapped received acceptedCommand acceptedResponse noted entered moved does step run flat among distinct chainingValues forged received-as other-header other-data authenticate with-le more-commands more-responses header-changed data-changed le-changed status-changed one-wrapped never-wrapped check repeated mac-changed response-again mixed allBytes response-data-changed entry reply two-outstanding answer-to-nothing dataOf p2Of sizeOf leOf sw1Of
 computed =
     record {
       counted = refl;
@@ -337,6 +370,11 @@ computed =
       data-differs = λ v. let e : _≡_ {A = ℕ} 1 3 = ap sizeOf (v .commandsAgree) in omega (arith, e);
       le-differs = λ v. let e : _≡_ {A = ℕ} 1 0 = ap leOf (v .commandsAgree) in omega (arith, e);
       status-differs = λ v. let e : _≡_ {A = ℕ} 0x6A 0x90 = ap sw1Of (v .responsesAgree) in omega (arith, e);
+      response-data-differs = λ v. let e : _≡_ {A = ℕ} 1 0 = ap dataOf (v .responsesAgree) in omega (arith, e);
+      repeated-differs = λ v. let h = v .a≤w in omega (arith, h);
+      at-most-one-outstanding = λ v. let h = v .w≤r+1 in omega (arith, h);
+      no-answer-to-nothing = λ v. let h = v .s≤a in omega (arith, h);
+      wrong-mac = λ b. let e = ap (λ (l : Bytes). getD l 0 0) (b .right) in omega (arith, e);
       mac-refused = refl;
       repetition-refused = refl;
       mixed-not-excepted = not-mixed;

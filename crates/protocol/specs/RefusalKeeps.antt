@@ -15,7 +15,7 @@ use Rattle.ciphers.specs.Ciphers.{Ciphers}
 use Rattle.protocol.specs.Answer.{Answer, refused, gave}
 use Rattle.protocol.specs.Transcript.{Call, wrapCommand, unwrapCommand, wrapResponse, unwrapResponse, close, Gives, does}
 
--- the refusals of each call, in document 01's order
+-- the refusals of each call; that they come in document 01's order is in the calls' definitions, and computed in proofs/Answers
 abbrev pub order : Call → List ℕ
 order (wrapCommand side m room) = 1 ∷ 2 ∷ 3 ∷ 4 ∷ 5 ∷ 6 ∷ []
 order (unwrapCommand side ins p1 p2 field room) = 1 ∷ 2 ∷ 3 ∷ 4 ∷ 5 ∷ 7 ∷ 8 ∷ 6 ∷ 9 ∷ 10 ∷ []
@@ -31,7 +31,7 @@ writes (wrapResponse side m room) field = field
 writes (unwrapResponse side sw field room) m = m .payload
 writes (close side) u = []
 
--- what a buffer that held those bytes holds afterwards
+-- what a buffer that held those bytes holds afterwards: what the contract of the function that makes the call says
 abbrev pub buffer : (c : Call) → Bytes → Answer (Gives c) → Bytes
 buffer c held (refused r) = held
 buffer c held (gave a) = over held (writes c a)

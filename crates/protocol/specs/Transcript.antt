@@ -1,7 +1,6 @@
 -- Document 01, "The list that demand 3 speaks of": the calls, and the transcript that is kept of them ("a book" there).
 -- Four logs, made from the calls' arguments and answers and the keys as given at opening, never from a session.
 -- Assumes nothing.
-use mathlib.Core.Bool.{false}
 use mathlib.Core.List.{List, [], _∷_, _++_, map}
 use Prim.Native.Nat.{ℕ, suc}
 use lib.ListN.{length}

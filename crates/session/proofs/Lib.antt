@@ -1,2 +1,3 @@
 pub mod StoredKeys
 pub mod ArraysKept
+pub mod SessionExamples
