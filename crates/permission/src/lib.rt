@@ -46,10 +46,10 @@ pub fn le_need(ins: u8) -> Need
 pub fn data_need(ins: u8) -> Need
     ensures { λ need. ⌜ need ≡ dataNeed ins ⌝ }
 {
-    if ins == VERIFY {
-        return Need::May;
+    if ins != VERIFY {
+        return Need::Must;
     }
-    Need::Must
+    Need::May
 }
 
 fn suits(need: Need, there: bool) -> bool

@@ -198,7 +198,7 @@ module _ (C : Ciphers) where
     pub may : MayUnwrapCommand s ins (length field)
     pub read : readField (commandWanted ins) field ≡ Read o
     pub fits : o .«ciphertext_len» ≤ room
-    pub right : macOf field o ≡ take 8 (commandMac C s (headerRead C ins p1 p2 o) (coveredOf field o))
+    pub right : macOf field o ≡ take 8 (commandMac C s (headerRead ins p1 p2 o) (coveredOf field o))
     pub text : C .decrypt (keyIn (s .suite) (s .«sk_enc»)) (commandCounter (s .count + 1)) (ciphertextOf field o) ≡ some d
 
   pub card-unwraps : (Q : Out CommandGiven → Type 0) (s : Session) (ins p1 p2 : ℕ) (field : Bytes) (room : ℕ) → Refuses Q s
@@ -216,7 +216,7 @@ module _ (C : Ciphers) where
         may = may-unwrap-command s ins (length field) u e;
         read = objects-gave (readField (commandWanted ins) field) o f;
         fits = leb-true _ _ g;
-        right = same-eq (macOf field o) (take 8 (commandMac C s (headerRead C ins p1 p2 o) (coveredOf field o))) h;
+        right = same-eq (macOf field o) (take 8 (commandMac C s (headerRead ins p1 p2 o) (coveredOf field o))) h;
         text = text-gave _ d k;
       }))))))
 

@@ -184,10 +184,10 @@ module _ (C : Ciphers) (L : Laws C) (h c : Session) (m : Command) (wrapRoom unwr
       (pass _ _ _ _ (le-leb (length field) 2066 (omega (arith, length-commandField x n size (take 8 full) mac-size (m .header .le), command-short n (m .header .le) fits)))
       (pass _ _ _ _ (lt-ltb (c .count) commandLimit (omega (arith, step .counts, counted))) refl))))
 
-  header-same : headerRead C (m .header .ins) (m .header .p1) (m .header .p2) o ≡ m .header
+  header-same : headerRead (m .header .ins) (m .header .p1) (m .header .p2) o ≡ m .header
   header-same = ap (λ (le : Bool). record { ins = m .header .ins; p1 = m .header .p1; p2 = m .header .p2; le = le }) (back .second)
 
-  mac-same : commandMac C c (headerRead C (m .header .ins) (m .header .p1) (m .header .p2) o) (coveredOf field o) ≡ full
+  mac-same : commandMac C c (headerRead (m .header .ins) (m .header .p1) (m .header .p2) o) (coveredOf field o) ≡ full
   unfolding commandMac
   mac-same =
       ap₂ (λ (head : CommandHeader) (covered : Bytes). C .mac (keyIn (c .suite) (c .«sk_mac»)) (commandInput (c .«command_mcv») head covered)) header-same (back .covers)

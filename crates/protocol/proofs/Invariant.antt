@@ -57,11 +57,11 @@ pub record AreKeys (K : Keys) : Type 0 where
 -- ---- a field whose MAC input is one that was made holds what that was made of
 
 module _ (ch : Bytes) (ins p1 p2 : ℕ) (field : Bytes) (o : Objects) (read : readField (commandWanted ins) field ≡ Read o) where
-  command-same : (C : Ciphers) (h : CommandHeader) (c : Bytes) → WholeBlocks 65519 c
-      → commandInput ch (headerRead C ins p1 p2 o) (coveredOf field o) ≡ commandInput ch h (commandObjects c (h .le))
-      → (headerRead C ins p1 p2 o ≡ h) × (ciphertextOf field o ≡ c)
+  command-same : (h : CommandHeader) (c : Bytes) → WholeBlocks 65519 c
+      → commandInput ch (headerRead ins p1 p2 o) (coveredOf field o) ≡ commandInput ch h (commandObjects c (h .le))
+      → (headerRead ins p1 p2 o ≡ h) × (ciphertextOf field o ≡ c)
   unfolding commandInput commandMacInput encodedHeader
-  command-same C h c blocks q =
+  command-same h c blocks q =
       let g : Bytes = encodedHeader ins p1 p2 in
       let k : Bytes = encodedHeader (h .ins) (h .p1) (h .p2) in
       let n : length (ch ++ g) ≡ length (ch ++ k) = length-append ch g ∙ sym (length-append ch k) in
@@ -280,10 +280,10 @@ module _ (C : Ciphers) (K : Keys) where
     A = t .commandsAccepted
 
     abbrev m : Command
-    m = record { header = headerRead C ins p1 p2 o; payload = d }
+    m = record { header = headerRead ins p1 p2 o; payload = d }
 
     abbrev i : Bytes
-    i = commandInput (chaining C (K .mac) A) (headerRead C ins p1 p2 o) (coveredOf field o)
+    i = commandInput (chaining C (K .mac) A) (headerRead ins p1 p2 o) (coveredOf field o)
 
     abbrev g : CommandGiven
     g = record { payload = d; le = o .second }
@@ -291,10 +291,10 @@ module _ (C : Ciphers) (K : Keys) where
     card-live : Live Card c A (t .responsesWrapped)
     card-live = v .card-is (read .may .opened)
 
-    accepted-maced : commandMac C c (headerRead C ins p1 p2 o) (coveredOf field o) ≡ C .mac (K .mac) i
+    accepted-maced : commandMac C c (headerRead ins p1 p2 o) (coveredOf field o) ≡ C .mac (K .mac) i
     unfolding commandMac
     accepted-maced =
-        ap₂ (λ (k mcv : Bytes). C .mac k (commandInput mcv (headerRead C ins p1 p2 o) (coveredOf field o))) (card-live .mac-is) (card-live .command-is)
+        ap₂ (λ (k mcv : Bytes). C .mac k (commandInput mcv (headerRead ins p1 p2 o) (coveredOf field o))) (card-live .mac-is) (card-live .command-is)
 
     accepted-text : C .decrypt (K .enc) (commandCounter (suc (length A))) (ciphertextOf field o) ≡ some d
     accepted-text =
@@ -307,7 +307,7 @@ module _ (C : Ciphers) (K : Keys) where
     entry-is =
         ap (λ (q : Objects). record {
           message = m;
-          input = commandInput (chaining C (K .mac) A) (headerRead C ins p1 p2 q) (coveredOf field q);
+          input = commandInput (chaining C (K .mac) A) (headerRead ins p1 p2 q) (coveredOf field q);
         }) (objects-read ins field o (read .read))
 
     pub command-accepted : let a = commandAccepted C c ins p1 p2 field o d in
@@ -315,11 +315,11 @@ module _ (C : Ciphers) (K : Keys) where
     unfolding noted commandAccepted
     command-accepted =
         go (channel-accepted C (K .enc) (commands K) L (command-lawful K) (G .mac) (G .enc) A (t .commandsWrapped) m (ciphertextOf field o) (coveredOf field o)
-        (v .command-channel) (λ h c blocks q. command-same (chaining C (K .mac) A) ins p1 p2 field o (read .read) C h c blocks q) accepted-text)
+        (v .command-channel) (λ h c blocks q. command-same (chaining C (K .mac) A) ins p1 p2 field o (read .read) h c blocks q) accepted-text)
       where
         go : Channel C (K .enc) (commands K) (A ++ record { message = m; input = i } ∷ []) (t .commandsWrapped)
             ⊎ ((List·Memᴰ i (inputs (t .commandsWrapped)) → ⊥) ⊎ Collision C (K .mac) (inputs (t .commandsWrapped)))
-            → Inv h (commandTaken c (commandMac C c (headerRead C ins p1 p2 o) (coveredOf field o))) (noted C K t (unwrapCommand Card ins p1 p2 field room) g)
+            → Inv h (commandTaken c (commandMac C c (headerRead ins p1 p2 o) (coveredOf field o))) (noted C K t (unwrapCommand Card ins p1 p2 field room) g)
             ⊎ Breaks C K t (unwrapCommand Card ins p1 p2 field room) g
         go (inr cause) =
             inr (rw (entry-is, objects-read ins field o (read .read)) (record { right = read .right ∙ ap (take 8) accepted-maced; cause = cause }))

@@ -17,7 +17,9 @@ use Rattle.refusal.specs.declared.Refusal.{Refusal}
 use Rattle.session.specs.Suites.{keyLength, suiteOf}
 use Rattle.session.specs.Session.{fresh, closed, stored, keyIn}
 use Rattle.validity.specs.Valid.{countsAsOpen}
+use Rattle.session.specs.Arrays.{KeysOfBytes}
 use Rattle.session.specs.Opening.{Keys, keysFit, openSuite, opening}
+use Rattle.session.proofs.StoredKeys.{fitting}
 use Rattle.session.specs.declared.Side.{Side}
 use Rattle.session.specs.declared.Side.the-variants.{Host, Card}
 use Rattle.session.specs.declared.Phase.the-variants.{Ready, Pending}
@@ -31,7 +33,7 @@ use Rattle.session.specs.declared.Session.{Session}
 use Rattle.ciphers.specs.Ciphers.{Ciphers, Laws, IsKey}
 use Rattle.protocol.specs.Answer.{Out, afterRefusal}
 use Rattle.protocol.specs.Transcript.{Call, wrapCommand, unwrapCommand, wrapResponse, unwrapResponse, close, sideOf, Gives, does, Transcript, commands, responses, lastMac, chaining, noted, entered, State, sessionAt, moved, step, run, start}
-use Rattle.protocol.specs.Agreement.{Agrees, BreaksIn, Excepted, KeyBytes, CallBytes, AllBytes, Agreement}
+use Rattle.protocol.specs.Agreement.{Agrees, BreaksIn, Excepted, CallBytes, AllBytes, Agreement}
 use Rattle.protocol.proofs.Channel.{channel-empty, channel-length, channel-messages}
 use Rattle.protocol.proofs.CallCases.{turn-is, host-wraps, card-wraps, card-unwraps, host-unwraps}
 use Rattle.protocol.proofs.Invariant.{AreKeys, Live, Inv, ready-pending, host-card, closed-shut, after-refusal, command-wrapped, response-wrapped, command-accepted, response-accepted}
@@ -160,36 +162,29 @@ opened side n K e = go (suiteOf n) refl e
     go (Known suite) q e = by suite (keysFit (keyLength suite) K) refl q e
     go Unknown q e = not-done e
 
-sizes : (n : ℕ) (K : Keys) → keysFit n K ≡ true → (length (K .enc) ≡ n) × ((length (K .mac) ≡ n) × (length (K .rmac) ≡ n))
-unfolding keysFit
-sizes n K e =
-    let a = both (eqb (length (K .enc)) n && eqb (length (K .mac)) n) (eqb (length (K .rmac)) n) e in
-    let b = both (eqb (length (K .enc)) n) (eqb (length (K .mac)) n) (a .0) in
-    (eqb-true _ _ (b .0), (eqb-true _ _ (b .1), eqb-true _ _ (a .1)))
-
 key-size : (suite : Suite) (k : Bytes) → length k ≡ keyLength suite → (length k ≡ 16) ⊎ (length k ≡ 32)
 key-size Cs2 k e = inl e
 key-size Cs7 k e = inr e
 
-pub are-keys : (suite : Suite) (K : Keys) → KeyBytes K → keysFit (keyLength suite) K ≡ true → AreKeys K
+pub are-keys : (suite : Suite) (K : Keys) → KeysOfBytes K → keysFit (keyLength suite) K ≡ true → AreKeys K
 are-keys suite K y e =
-    let s = sizes (keyLength suite) K e in
+    let s = fitting (keyLength suite) K e in
     record {
-      enc = record { bytes = y .enc; size = key-size suite (K .enc) (s .0) };
-      mac = record { bytes = y .mac; size = key-size suite (K .mac) (s .1 .0) };
-      rmac = record { bytes = y .rmac; size = key-size suite (K .rmac) (s .1 .1) };
+      enc = record { bytes = y .enc; size = key-size suite (K .enc) (s .enc) };
+      mac = record { bytes = y .mac; size = key-size suite (K .mac) (s .mac) };
+      rmac = record { bytes = y .rmac; size = key-size suite (K .rmac) (s .rmac) };
     }
 
 pub fresh-live : (C : Ciphers) (K : Keys) (side : Side) (suite : Suite) → keysFit (keyLength suite) K ≡ true
     → Live C K side (fresh side suite (stored (K .enc)) (stored (K .mac)) (stored (K .rmac))) [] []
 unfolding chaining lastMac
 fresh-live C K side suite e =
-    let s = sizes (keyLength suite) K e in
+    let s = fitting (keyLength suite) K e in
     record {
       side-is = refl;
-      enc-is = take-at (K .enc) (zeros (32 - length (K .enc))) (keyLength suite) (s .0);
-      mac-is = take-at (K .mac) (zeros (32 - length (K .mac))) (keyLength suite) (s .1 .0);
-      rmac-is = take-at (K .rmac) (zeros (32 - length (K .rmac))) (keyLength suite) (s .1 .1);
+      enc-is = take-at (K .enc) (zeros (32 - length (K .enc))) (keyLength suite) (s .enc);
+      mac-is = take-at (K .mac) (zeros (32 - length (K .mac))) (keyLength suite) (s .mac);
+      rmac-is = take-at (K .rmac) (zeros (32 - length (K .rmac))) (keyLength suite) (s .rmac);
       count-is = refl;
       command-is = refl;
       response-is = refl;

@@ -8,6 +8,7 @@ use Prim.Native.Nat.{ℕ, _+_, _≤_, _<_}
 use lib.ListN.{length, take, getD}
 use Rattle.octets.specs.Bytes.{Bytes, IsBytes, zeros}
 use Rattle.fields.specs.Field.{macOf}
+use Rattle.session.specs.Arrays.{KeysOfBytes}
 use Rattle.session.specs.Opening.{Keys, opening}
 use Rattle.session.specs.declared.Side.the-variants.{Host, Card}
 use Rattle.session.specs.declared.Opening.the-variants.{Opened as Done}
@@ -83,12 +84,7 @@ module _ (C : Ciphers) (K : Keys) where
 
 -- ---- the demand
 
--- keys, and data that is wrapped, are bytes
-pub record KeyBytes (K : Keys) : Type 0 where
-  pub enc : IsBytes (K .enc)
-  pub mac : IsBytes (K .mac)
-  pub rmac : IsBytes (K .rmac)
-
+-- data that is wrapped is bytes
 abbrev pub CallBytes : Call → Type 0
 CallBytes (wrapCommand side m room) = IsBytes (m .payload)
 CallBytes (unwrapCommand side ins p1 p2 field room) = Unit {0}
@@ -103,7 +99,7 @@ AllBytes (c ∷ cs) = CallBytes c × AllBytes cs
 -- after every call of every list that begins with two openings that were not refused, with the same keys
 abbrev pub Agreement : Ciphers → Type 0
 Agreement C =
-    (hostSuite cardSuite : ℕ) (K : Keys) → KeyBytes K
+    (hostSuite cardSuite : ℕ) (K : Keys) → KeysOfBytes K
     → opening Host hostSuite K .answer ≡ Done → opening Card cardSuite K .answer ≡ Done
     → (calls : List Call) → AllBytes calls → (n : ℕ)
     → let st = start (opening Host hostSuite K .session) (opening Card cardSuite K .session) in

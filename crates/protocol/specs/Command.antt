@@ -53,6 +53,10 @@ pub record CommandGiven : Type 0 where
   pub payload : Bytes
   pub le : Bool
 
+-- header and Le of a command that is read
+abbrev pub headerRead : ℕ → ℕ → ℕ → Objects → CommandHeader
+headerRead ins p1 p2 o = record { ins = ins; p1 = p1; p2 = p2; le = o .second }
+
 module _ (C : Ciphers) where
   -- the full MAC under the session's SK_MAC
   unfoldable pub commandMac : Session → CommandHeader → Bytes → Bytes
@@ -74,10 +78,6 @@ module _ (C : Ciphers) where
       wrapCommandChecks s (m .header) (length (m .payload)) room and-then (λ checked.
       gave (commandWrapped s (m .header) (commandCiphertext s (m .payload))))
       )
-
-  -- header and Le of a command that is read
-  abbrev pub headerRead : ℕ → ℕ → ℕ → Objects → CommandHeader
-  headerRead ins p1 p2 o = record { ins = ins; p1 = p1; p2 = p2; le = o .second }
 
   -- an accepted command: data and Le, and all 16 bytes of the MAC that was computed as the next chaining value
   unfoldable pub commandAccepted : Session → ℕ → ℕ → ℕ → Bytes → Objects → Bytes → Outcome CommandGiven

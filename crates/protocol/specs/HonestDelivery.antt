@@ -8,6 +8,7 @@ use Rattle.octets.specs.Bytes.{Bytes, IsBytes}
 use Rattle.objects.specs.Lengths.{ciphertextLength, commandLength, responseLength}
 use Rattle.session.specs.Session.{keyIn}
 use Rattle.validity.specs.Valid.{countsAsOpen}
+use Rattle.session.specs.Arrays.{KeysOfBytes}
 use Rattle.session.specs.Opening.{Keys, opening}
 use Rattle.session.specs.declared.Opening.the-variants.{Opened as Done}
 use Rattle.session.specs.declared.Side.the-variants.{Host, Card}
@@ -20,7 +21,6 @@ use Rattle.protocol.specs.Permission.{commandPermitted, statusPermitted}
 use Rattle.protocol.specs.Answer.{gave, Out}
 use Rattle.protocol.specs.Command.{CommandGiven, hostWraps, cardUnwraps}
 use Rattle.protocol.specs.Response.{cardWraps, hostUnwraps}
-use Rattle.protocol.specs.Agreement.{KeyBytes}
 
 -- two sessions in step: a host's and a card's, open, in one phase, with the same suite, keys, count and chaining values
 pub record InStep (phase : Phase) (h c : Session) : Type 0 where
@@ -89,6 +89,6 @@ DeliversResponses C =
 
 abbrev pub OpensInStep : Type 0
 OpensInStep =
-    (suite : ℕ) (K : Keys) → KeyBytes K → opening Host suite K .answer ≡ Done → opening Card suite K .answer ≡ Done
+    (suite : ℕ) (K : Keys) → KeysOfBytes K → opening Host suite K .answer ≡ Done → opening Card suite K .answer ≡ Done
     → InStep Ready (opening Host suite K .session) (opening Card suite K .session)
     × (Keyed (opening Host suite K .session) × (opening Host suite K .session .count ≡ 0))

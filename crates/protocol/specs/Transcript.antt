@@ -149,7 +149,7 @@ module _ (C : Ciphers) (K : Keys) where
   unfoldable pub acceptedCommand : ℕ → ℕ → ℕ → Bytes → CommandGiven → List (Entry CommandHeader) → Entry CommandHeader
   acceptedCommand ins p1 p2 field g =
       let o = commandRead ins field in
-      received C (commands K) (headerRead C ins p1 p2 o) (coveredOf field o)
+      received C (commands K) (headerRead ins p1 p2 o) (coveredOf field o)
       (record { header = record { ins = ins; p1 = p1; p2 = p2; le = g .le }; payload = g .payload })
 
   unfoldable pub acceptedResponse : StatusWord → Bytes → Response → List (Entry StatusWord) → Entry StatusWord

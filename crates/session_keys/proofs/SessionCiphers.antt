@@ -1,6 +1,6 @@
 -- The cipher under a session's key is the cipher under the schedule of its 32 bytes.
 -- Assumes nothing.
-use mathlib.Core.Path.{_≡_, refl, ap, _∙_}
+use mathlib.Core.Path.{_≡_, refl, sym, ap, _∙_}
 use native.Mathlib.Omega.{arith}
 use lib.ListN.{length, take}
 use lib.Seq.{length-take-le}
@@ -40,3 +40,7 @@ module _ (suite : Suite) (key : Bytes) (h : length key ≡ 32) where
   session-inv-ciph x =
       ap (λ (size : KeySize). scheduleInvCiph size (schedule size (keyIn suite key)) x) (size-is suite key h)
       ∙ ap (λ w. scheduleInvCiph (keySize suite) w x) (same-schedule suite key)
+
+  -- the same, of the functions
+  pub same-cipher : scheduleCiph (keySize suite) (schedule (keySize suite) key) ≡ ciph (keyIn suite key)
+  same-cipher = λ i x. sym (session-ciph x) i

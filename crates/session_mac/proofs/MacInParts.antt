@@ -13,20 +13,17 @@ use Rattle.session.specs.Session.{keyIn}
 use Rattle.session.specs.declared.Suite.{Suite}
 use Rattle.ciphers.specs.Aes.{ciph}
 use Rattle.session_keys.specs.SessionKeys.{keySize}
-use Rattle.session_keys.proofs.SessionCiphers.{session-ciph}
+use Rattle.session_keys.proofs.SessionCiphers.{same-cipher}
 
 module _ (suite : Suite) (key : Bytes) (h : length key ≡ 32) where
   abbrev c : Bytes → Bytes
   c = scheduleCiph (keySize suite) (schedule (keySize suite) key)
 
-  same-cipher : c ≡ ciph (keyIn suite key)
-  same-cipher = λ i x. sym (session-ciph suite key h x) i
-
   pub in-two-parts : (a b : Bytes) → finish c (absorb c (absorb c start a) b) ≡ cmac (ciph (keyIn suite key)) (a ++ b)
   in-two-parts a b =
       ap (finish c) (sym (absorb-append c start a b))
       ∙ cmac-aes (keySize suite) (schedule (keySize suite) key) (a ++ b)
-      ∙ ap (λ (f : Bytes → Bytes). cmac f (a ++ b)) same-cipher
+      ∙ ap (λ (f : Bytes → Bytes). cmac f (a ++ b)) (same-cipher suite key h)
 
   pub in-three-parts : (a b d : Bytes) → finish c (absorb c (absorb c (absorb c start a) b) d) ≡ cmac (ciph (keyIn suite key)) (a ++ b ++ d)
   in-three-parts a b d = ap (λ s. finish c (absorb c s d)) (sym (absorb-append c start a b)) ∙ in-two-parts (a ++ b) d

@@ -23,7 +23,7 @@ use Rattle.session.specs.Session.{keyIn}
 use Rattle.session.specs.declared.Suite.{Suite}
 use Rattle.ciphers.specs.Aes.{ciph, encrypt}
 use Rattle.session_keys.specs.SessionKeys.{keySize}
-use Rattle.session_keys.proofs.SessionCiphers.{session-ciph}
+use Rattle.session_keys.proofs.SessionCiphers.{same-cipher}
 
 -- written over once more, with as many bytes
 over-over : (xs ys zs : Bytes) → length zs ≡ length ys → over (over xs ys) zs ≡ over xs zs
@@ -37,13 +37,10 @@ module _ (suite : Suite) (key counter d : Bytes) (h : length key ≡ 32) (some :
   abbrev c : Bytes → Bytes
   c = scheduleCiph (keySize suite) (schedule (keySize suite) key)
 
-  same-cipher : c ≡ ciph (keyIn suite key)
-  same-cipher = λ i x. sym (session-ciph suite key h x) i
-
   encrypt-is : cbcEncrypt c (c counter) (pad d) ≡ encrypt (keyIn suite key) counter d
   unfolding encrypt
   encrypt-is =
-      ap (λ (f : Bytes → Bytes). cbcEncrypt f (f counter) (pad d)) same-cipher
+      ap (λ (f : Bytes → Bytes). cbcEncrypt f (f counter) (pad d)) (same-cipher suite key h)
       ∙ sym (rw (ne-eqb (length d) 0 (λ z. omega (arith, z))))
 
   length-is : length (cbcEncrypt c (c counter) (pad d)) ≡ length (pad d)

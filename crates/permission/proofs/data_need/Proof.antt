@@ -7,11 +7,11 @@ use Rattle.protocol.specs.Permission.{dataNeed}
 
 returns : tie.Need-returns
 unfolding dataNeed
-returns c = rw (eq-eqb (c .before .args .ins) 0x20 (c .if1 .taken))
+returns c = rw (ne-eqb (c .before .args .ins) 0x20 (c .if1 .taken))
 
 returns-2 : tie.Need-returns-2
 unfolding dataNeed
-returns-2 c = rw (ne-eqb (c .before .args .ins) 0x20 (c .if1 .left))
+returns-2 c = rw (eq-eqb (c .before .args .ins) 0x20 (c .if1 .left))
 
 pub data-need-spec : {M : Type 1} → statement M
 data-need-spec = tie.close (tie.spec returns returns-2)
