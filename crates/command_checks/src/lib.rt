@@ -3,19 +3,15 @@ use objects::command_length;
 use permission::command_permitted;
 use permission::ins_permitted;
 use refusal::Refusal;
+use results::Checked;
 use session::Phase;
 use session::Session;
 use session::Side;
 use session::is_turn;
 use validity::counts_as_open;
 ghost use mathlib.Core.Path.{_≡_};
-ghost use Rattle.command_checks.specs.Checked.{checked};
+ghost use Rattle.results.specs.Results.{checked};
 ghost use Rattle.protocol.specs.Command.{wrapCommandChecks, unwrapCommandChecks};
-
-pub enum Checked {
-    Passed,
-    Refused(Refusal),
-}
 
 // Of a wrap: a command with n bytes of data, and a buffer of that size.
 pub fn wrap_command_checks(

@@ -1,14 +1,17 @@
 -- The walk back over zeros, step by step; and what was padded is found again.
 -- Assumes nothing.
 use mathlib.Core.Path.{_≡_, refl, ap, ap₂, _∙_}
+use mathlib.Core.Bool.{Bool, true, false}
 use mathlib.Core.List.{_∷_, _++_}
 use Prim.Native.Nat.{ℕ, zero, suc, _+_, _-_, _%_, _<_, _≤_, min}
 use native.Mathlib.Nat.{zero-add}
 use native.Mathlib.Omega.{arith}
 use borrow.Author.Tests.{eq-eqb, ne-eqb}
+use lib.Dec.{eqb}
 use lib.ListN.{length, getD, length-append, getD-replicate, length-replicate}
 use lib.Seq.{getD-append-add, getD-append-seam}
 use Rattle.octets.specs.Bytes.{Bytes, zeros}
+use Rattle.octets.specs.Choice.{if_then_else_}
 use Rattle.padding.specs.Padding.{padding, pad, marked, markBefore, unpad}
 use Rattle.padding.specs.declared.Unpadded.the-variants.{Data, BadPadding}
 use Rattle.padding.proofs.Lengths.{length-pad}
@@ -29,6 +32,34 @@ pub back-to-none : (k : ℕ) (xs : Bytes) (n : ℕ) → k ≡ 0 → markBefore k
 unfolding markBefore
 back-to-none zero xs n e = refl
 back-to-none (suc k) xs n e = let z : ⊥ = omega arith in absurd z
+
+-- ---- the data ends before the padding
+
+no-data : {m : ℕ} {P : Type 0} → BadPadding ≡ Data m → P
+no-data e = let z : _≡_ {A = ℕ} 0 1 = cc in let o : ⊥ = omega arith in absurd o
+
+mark-at : (b n m : ℕ) → marked b n ≡ Data m → m ≡ n
+unfolding marked
+mark-at b n m e = go (eqb b 0x80) (eqb n 0) e
+  where
+    go : (p q : Bool) → (if p then (if q then BadPadding else Data n) else BadPadding) ≡ Data m → m ≡ n
+    go true true e = no-data e
+    go true false e = cc
+    go false q e = no-data e
+
+mark-before : (k : ℕ) (xs : Bytes) (n m : ℕ) → k ≤ n → markBefore k xs n ≡ Data m → m < n
+unfolding markBefore
+mark-before zero xs n m h e = no-data e
+mark-before (suc k) xs n m h e = go (eqb (getD xs (n - 1) 0) 0) e (mark-before k xs (n - 1) m (omega arith))
+  where
+    go : (z : Bool) → (if z then markBefore k xs (n - 1) else marked (getD xs (n - 1) 0) (n - 1)) ≡ Data m
+        → (markBefore k xs (n - 1) ≡ Data m → m < n - 1) → m < n
+    go true e f = omega (arith, f e)
+    go false e f = omega (arith, mark-at (getD xs (n - 1) 0) (n - 1) m e)
+
+pub data-short : (xs : Bytes) (m : ℕ) → unpad xs ≡ Data m → m < length xs
+unfolding unpad
+data-short xs m e = mark-before (min 16 (length xs)) xs (length xs) m (omega arith) e
 
 -- ---- what was padded
 

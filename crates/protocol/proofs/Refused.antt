@@ -24,11 +24,11 @@ use Rattle.session.specs.declared.Session.{Session}
 use Rattle.ciphers.specs.Ciphers.{Ciphers}
 use Rattle.protocol.specs.Permission.{commandWanted, responseWanted}
 use Rattle.counter.specs.Counter.{commandCounter, responseCounter}
-use Rattle.protocol.specs.Answer.{Answer, refused, gave, require_else_⨾_, _and-then_, Outcome, Out, afterRefusal, concluded, objectsOf, textOf}
+use Rattle.protocol.specs.Answer.{Answer, refused, gave, require_else_⨾_, _and-then_, Outcome, Out, afterRefusal, concluded, objectsOf, textOf, buffer}
 use Rattle.protocol.specs.Command.{wrapCommandChecks, unwrapCommandChecks, hostWraps, cardUnwraps}
 use Rattle.protocol.specs.Response.{wrapResponseChecks, unwrapResponseChecks, cardWraps, hostUnwraps}
 use Rattle.protocol.specs.Transcript.{Call, wrapCommand, unwrapCommand, wrapResponse, unwrapResponse, close, Gives, does}
-use Rattle.protocol.specs.RefusalKeeps.{order, writes, buffer, IsClosed, Keeps, RefusalKeeps}
+use Rattle.protocol.specs.RefusalKeeps.{order, writes, IsClosed, Keeps, RefusalKeeps}
 
 -- ---- the refusals of a stage are among those numbers
 
@@ -174,10 +174,11 @@ module _ (C : Ciphers) (s : Session) where
       })
 
 pub refusal-keeps : (C : Ciphers) → RefusalKeeps C
+unfolding buffer
 refusal-keeps C s c r held e =
     record {
       in-order = in-order C s c r e;
-      output = ap (buffer c held) e;
+      output = ap (buffer (writes c) held) e;
       closes = λ f. is-closed C s (does C s c .next) (next-is C s c r e ∙ closing C s r f);
       stays = λ f. next-is C s c r e ∙ staying C s r f;
     }

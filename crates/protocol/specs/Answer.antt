@@ -3,7 +3,9 @@ use mathlib.Core.Bool.{Bool, _||_}
 use mathlib.Core.Option.{Option, none, some}
 use Prim.Native.Nat.{ℕ}
 use lib.Dec.{eqb}
+use Rattle.octets.specs.Bytes.{Bytes}
 use Rattle.octets.specs.Choice.{if_then_else_}
+use Rattle.octets.specs.Write.{over}
 use Rattle.refusal.specs.Refusal.{number}
 use Rattle.refusal.specs.declared.Refusal.{Refusal}
 use Rattle.fields.specs.declared.Objects.{Objects}
@@ -43,6 +45,11 @@ afterRefusal s r = if eqb (number r) 9 || eqb (number r) 10 then closed s else s
 unfoldable pub concluded : {A : Type 0} → Session → Answer (Outcome A) → Out A
 concluded s (refused r) = record { answer = refused r; next = afterRefusal s r }
 concluded s (gave o) = record { answer = gave (o .gives); next = o .next }
+
+-- the caller's buffer, which held some bytes: at a refusal it stays; else what the call writes stands over its start
+unfoldable pub buffer : {A : Type 0} → (A → Bytes) → Bytes → Answer A → Bytes
+buffer writes held (refused r) = held
+buffer writes held (gave a) = over held (writes a)
 
 -- ---- the stages that read
 

@@ -6,13 +6,12 @@ use mathlib.Core.Logic.{_⊎_}
 use mathlib.Core.List.{List, [], _∷_, List·Memᴰ}
 use Prim.Native.Nat.{ℕ}
 use Rattle.octets.specs.Bytes.{Bytes, zeros}
-use Rattle.octets.specs.Write.{over}
 use Rattle.refusal.specs.Refusal.{number}
 use Rattle.refusal.specs.declared.Refusal.{Refusal}
 use Rattle.session.specs.declared.Phase.the-variants.{Closed}
 use Rattle.session.specs.declared.Session.{Session}
 use Rattle.ciphers.specs.Ciphers.{Ciphers}
-use Rattle.protocol.specs.Answer.{Answer, refused, gave}
+use Rattle.protocol.specs.Answer.{refused, buffer}
 use Rattle.protocol.specs.Transcript.{Call, wrapCommand, unwrapCommand, wrapResponse, unwrapResponse, close, Gives, does}
 
 -- the refusals of each call; that they come in document 01's order is in the calls' definitions, and computed in proofs/Answers
@@ -31,11 +30,6 @@ writes (wrapResponse side m room) field = field
 writes (unwrapResponse side sw field room) m = m .payload
 writes (close side) u = []
 
--- what a buffer that held those bytes holds afterwards: what the contract of the function that makes the call says
-abbrev pub buffer : (c : Call) → Bytes → Answer (Gives c) → Bytes
-buffer c held (refused r) = held
-buffer c held (gave a) = over held (writes c a)
-
 -- closed, field by field
 pub record IsClosed (before after : Session) : Type 0 where
   pub side-stays : after .side ≡ before .side
@@ -50,7 +44,7 @@ pub record IsClosed (before after : Session) : Type 0 where
 
 pub record Keeps (C : Ciphers) (s : Session) (c : Call) (r : Refusal) (held : Bytes) : Type 0 where
   pub in-order : List·Memᴰ (number r) (order c)
-  pub output : buffer c held (does C s c .answer) ≡ held
+  pub output : buffer (writes c) held (does C s c .answer) ≡ held
   pub closes : (number r ≡ 9) ⊎ (number r ≡ 10) → IsClosed s (does C s c .next)
   pub stays : ((number r ≡ 9) ⊎ (number r ≡ 10) → ⊥) → does C s c .next ≡ s
 

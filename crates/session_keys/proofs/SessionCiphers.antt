@@ -44,3 +44,6 @@ module _ (suite : Suite) (key : Bytes) (h : length key ≡ 32) where
   -- the same, of the functions
   pub same-cipher : scheduleCiph (keySize suite) (schedule (keySize suite) key) ≡ ciph (keyIn suite key)
   same-cipher = λ i x. sym (session-ciph x) i
+
+  pub same-inv-cipher : scheduleInvCiph (keySize suite) (schedule (keySize suite) key) ≡ invCiph (keyIn suite key)
+  same-inv-cipher = λ i x. sym (session-inv-ciph x) i

@@ -13,6 +13,7 @@ ghost use Rattle.octets.specs.Write.{over, Wrote};
 ghost use Rattle.padding.specs.Padding.{pad, paddedLength};
 ghost use Rattle.aes.specs.Aes.{ciph};
 ghost use Rattle.cbc.specs.Cbc.{cbcEncrypt};
+ghost use Rattle.objects.specs.Lengths.{ciphertextLength};
 ghost use Rattle.session.specs.Session.{keyIn};
 ghost use Rattle.ciphers.specs.Aes.{encrypt};
 
@@ -33,8 +34,8 @@ fn put_padded(text: &mut [u8], data: &[u8]) -> usize
     put_padding(text, p, data.len())
 }
 
-// The encrypted data, from index 0 on; the index behind it.
-pub fn encrypt_text(
+// Of some data: encrypted, from index 0 on; the index behind it.
+fn encrypt_some(
     suite: Suite,
     sk_enc: [u8; 32],
     counter: [u8; 16],
@@ -50,4 +51,21 @@ pub fn encrypt_text(
     let n = put_padded(text, data);
     encrypt_start(size, &w, iv, text, n);
     n
+}
+
+// The encrypted data, from index 0 on; the index behind it. Of no data it is nothing.
+pub fn encrypt_text(
+    suite: Suite,
+    sk_enc: [u8; 32],
+    counter: [u8; 16],
+    data: &[u8],
+    text: &mut [u8],
+) -> usize
+    requires { ⌜ ciphertextLength (length (now «data»)) ≤ length (now text) ⌝ }
+    ensures { λ n. ⌜ Wrote (now (text .entry)) 0 (encrypt (keyIn suite «sk_enc») counter (now («data» .entry))) n (now (text .exit)) ⌝ }
+{
+    if data.len() == 0 {
+        return 0;
+    }
+    encrypt_some(suite, sk_enc, counter, data, text)
 }

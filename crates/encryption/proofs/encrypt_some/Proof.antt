@@ -1,8 +1,8 @@
--- `encrypt_text` meets its contract: the padded data is encrypted where it stands.
+-- `encrypt_some` meets its contract: the padded data is encrypted where it stands.
 -- Assumes nothing.
 use borrow.Author.Needs.{needs}
-use Rattle.session_text.proofs.encrypt_text.Statement.{statement}
-use Rattle.session_text.proofs.encrypt_text.Tie as tie
+use Rattle.encryption.proofs.encrypt_some.Statement.{statement}
+use Rattle.encryption.proofs.encrypt_some.Tie as tie
 use mathlib.Core.Path.{_≡_, sym, ap, ap₂, _∙_}
 use native.Mathlib.Omega.{arith}
 use Prim.Native.Nat.{ℕ}
@@ -10,7 +10,7 @@ use lib.ListN.{length}
 use Rattle.octets.proofs.Writing.{wrote-length}
 use Rattle.padding.specs.Padding.{pad, paddedLength}
 use Rattle.padding.proofs.Lengths.{length-pad}
-use Rattle.session_text.proofs.Encrypted.{encrypted-in}
+use Rattle.encryption.proofs.Encrypted.{encrypted-in}
 
 encrypt-start-requires : tie.Need-encrypt-start-requires
 unfolding paddedLength
@@ -27,8 +27,8 @@ returns c =
     encrypted-in (a .suite) (a .sk-enc) (a .counter) (a .«data» .now) n (c .before .before .before .before .before .before .before .before .before .before .before .before .before .before .before .pre .0) (a .text .now) _ _ _ (c .before .before .before .before .before .before .before .put-padded .ensures)
     (c .before .before .encrypt-start .ensures ∙ simp (c .before .before .before .before .before .before .before .before .before .encrypt-block .ensures, c .before .before .before .before .before .before .before .before .before .before .before .key-size .ensures, c .before .before .before .before .before .before .before .before .before .before .before .before .expanded .ensures))
 
-pub encrypt-text-spec : {M : Type 1} → statement M
-encrypt-text-spec =
+pub encrypt-some-spec : {M : Type 1} → statement M
+encrypt-some-spec =
     tie.close
     (tie.spec
     (λ c κs. search needs)

@@ -1,11 +1,13 @@
 -- The padded data in a buffer, encrypted in place, is the encryption of the data.
 -- Assumes nothing.
 use mathlib.Core.Path.{_≡_, refl, sym, ap, ap₂, _∙_}
-use mathlib.Core.List.{_++_}
+use mathlib.Core.Bool.{Bool, true, false}
+use mathlib.Core.List.{[], _++_}
 use Prim.Native.Nat.{ℕ, _*_, _/_, _+_, _<_, _≤_}
 use native.Mathlib.Nat.{zero-add}
 use native.Mathlib.Omega.{arith}
-use borrow.Author.Tests.{ne-eqb}
+use borrow.Author.Tests.{eq-eqb, ne-eqb, eqb-true, eqb-false}
+use lib.Dec.{eqb}
 use lib.ListN.{length, take, drop, length-append}
 use lib.Seq.{take-at, drop-append-seam}
 use Rattle.octets.specs.Bytes.{Bytes}
@@ -14,6 +16,7 @@ use Rattle.octets.specs.Write.{over, put, Wrote}
 use Rattle.octets.proofs.Writing.{wrote-all, put-start}
 use Rattle.padding.specs.Padding.{pad, paddedLength}
 use Rattle.padding.proofs.Lengths.{length-pad}
+use Rattle.objects.specs.Lengths.{ciphertextLength}
 use Rattle.key_expansion.specs.KeyExpansion.{schedule}
 use Rattle.aes.specs.Aes.{ciph as scheduleCiph}
 use Rattle.aes.proofs.Block.{length-ciph}
@@ -24,6 +27,11 @@ use Rattle.session.specs.declared.Suite.{Suite}
 use Rattle.ciphers.specs.Aes.{ciph, encrypt}
 use Rattle.session_keys.specs.SessionKeys.{keySize}
 use Rattle.session_keys.proofs.SessionCiphers.{same-cipher}
+
+-- of no data, nothing
+pub encrypt-none : (k counter d : Bytes) → length d ≡ 0 → encrypt k counter d ≡ []
+unfolding encrypt
+encrypt-none k counter d e = rw (eq-eqb (length d) 0 e)
 
 -- written over once more, with as many bytes
 over-over : (xs ys zs : Bytes) → length zs ≡ length ys → over (over xs ys) zs ≡ over xs zs
@@ -65,3 +73,15 @@ module _ (suite : Suite) (key counter d : Bytes) (h : length key ≡ 32) (some :
             ∙ ap (over xs) encrypt-is
             ∙ sym (put-start xs (encrypt (keyIn suite key) counter d));
       }
+
+-- as many bytes as the formula says
+pub length-encrypt : (suite : Suite) (key counter d : Bytes) → length key ≡ 32 → length (encrypt (keyIn suite key) counter d) ≡ ciphertextLength (length d)
+unfolding ciphertextLength
+length-encrypt suite key counter d h = go (eqb (length d) 0) refl
+  where
+    go : (t : Bool) → eqb (length d) 0 ≡ t → length (encrypt (keyIn suite key) counter d) ≡ (if t then 0 else paddedLength (length d))
+    go true e = ap length (encrypt-none (keyIn suite key) counter d (eqb-true (length d) 0 e))
+    go false e =
+        let f = eqb-false (length d) 0 e in
+        let some : 0 < length d = omega (arith, f) in
+        sym (ap length (encrypt-is suite key counter d h some)) ∙ length-is suite key counter d h some ∙ length-pad d

@@ -1,0 +1,55 @@
+// The tests of wrapping and unwrapping a response, in document 01's order.
+use objects::response_length;
+use permission::status_permitted;
+use refusal::Refusal;
+use results::Checked;
+use session::Phase;
+use session::Session;
+use session::Side;
+use session::is_turn;
+use validity::counts_as_open;
+ghost use mathlib.Core.Path.{_≡_};
+ghost use Rattle.results.specs.Results.{checked};
+ghost use Rattle.protocol.specs.Response.{wrapResponseChecks, unwrapResponseChecks};
+
+// Of a wrap: a response with n bytes of data, and a buffer of that size.
+pub fn wrap_response_checks(session: Session, sw1: u8, sw2: u8, n: usize, room: usize) -> Checked
+    ensures { λ r. ⌜ r ≡ checked (wrapResponseChecks session (record { sw1 = sw1; sw2 = sw2 }) n room) ⌝ }
+{
+    if !counts_as_open(session) {
+        return Checked::Refused(Refusal::SessionClosed);
+    }
+    if !is_turn(Side::Card, Phase::Pending, session) {
+        return Checked::Refused(Refusal::OutOfTurn);
+    }
+    if !status_permitted(sw1, sw2) {
+        return Checked::Refused(Refusal::NotPermitted);
+    }
+    if n > 16383 {
+        return Checked::Refused(Refusal::TooLong);
+    }
+    let needed = response_length(n);
+    if needed > room {
+        return Checked::Refused(Refusal::BufferTooSmall(needed));
+    }
+    Checked::Passed
+}
+
+// Of an unwrap: a field of n bytes, and the status word that came with it.
+pub fn unwrap_response_checks(session: Session, sw1: u8, sw2: u8, n: usize) -> Checked
+    ensures { λ r. ⌜ r ≡ checked (unwrapResponseChecks session (record { sw1 = sw1; sw2 = sw2 }) n) ⌝ }
+{
+    if !counts_as_open(session) {
+        return Checked::Refused(Refusal::SessionClosed);
+    }
+    if !is_turn(Side::Host, Phase::Pending, session) {
+        return Checked::Refused(Refusal::OutOfTurn);
+    }
+    if n == 0 {
+        return Checked::Refused(Refusal::Unprotected(sw1, sw2));
+    }
+    if n > 16403 {
+        return Checked::Refused(Refusal::TooLong);
+    }
+    Checked::Passed
+}

@@ -1,0 +1,58 @@
+// What the calls that wrap and unwrap give back: an answer, and the next session (document 01, "The numbered answers").
+use refusal::Refusal;
+use session::Session;
+ghost use mathlib.Core.Path.{_≡_};
+ghost use Rattle.protocol.specs.Answer.{afterRefusal};
+
+// Of the tests of a call.
+pub enum Checked {
+    Passed,
+    Refused(Refusal),
+}
+
+// Of a wrap: the length of the field that stands in the caller's buffer.
+pub enum WrapAnswer {
+    Wrapped(usize),
+    Refused(Refusal),
+}
+
+pub struct WrapResult {
+    pub answer: WrapAnswer,
+    pub session: Session,
+}
+
+// Of the card's unwrap: the length of the data that stands in the caller's buffer, and whether Le is present.
+pub enum CommandAnswer {
+    Accepted(usize, bool),
+    Refused(Refusal),
+}
+
+pub struct CommandResult {
+    pub answer: CommandAnswer,
+    pub session: Session,
+}
+
+// Of the host's unwrap: the length of the data that stands in the caller's buffer, and the status word.
+pub enum ResponseAnswer {
+    Accepted(usize, u8, u8),
+    Refused(Refusal),
+}
+
+pub struct ResponseResult {
+    pub answer: ResponseAnswer,
+    pub session: Session,
+}
+
+// A wrong MAC and wrong padding close the session; every other refusal keeps it as it was.
+pub fn after_refusal(session: Session, refusal: Refusal) -> Session
+    ensures { λ next. ⌜ next ≡ afterRefusal session refusal ⌝ }
+{
+    let number = refusal.number();
+    if number == 9 {
+        return session.close();
+    }
+    if number == 10 {
+        return session.close();
+    }
+    session
+}
