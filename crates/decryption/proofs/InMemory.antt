@@ -12,7 +12,7 @@ use lib.Seq.{take-take, take-at, length-take-le}
 use Rattle.octets.specs.Bytes.{Bytes}
 use Rattle.octets.specs.Choice.{if_then_else_}
 use Rattle.octets.specs.Write.{over, Wrote}
-use Rattle.octets.proofs.Writing.{wrote-all}
+use Rattle.octets.proofs.Writing.{wrote-start}
 use Rattle.padding.specs.Padding.{unpad}
 use Rattle.padding.specs.declared.Unpadded.{Unpadded}
 use Rattle.padding.specs.declared.Unpadded.the-variants.{Data, BadPadding}
@@ -64,7 +64,7 @@ module _ (suite : Suite) (key counter ct : Bytes) (h : length key ≡ 32) where
   unfolding over
   in-memory there held copied text n r w e l u =
       let e0 : n ≡ length ct = w .end ∙ zero-add (length ct) in
-      let start : take n copied ≡ ct = ap (take n) (wrote-all w) ∙ take-at ct (drop (length ct) held) n (sym e0) in
+      let start : take n copied ≡ ct = wrote-start w in
       let padded : Bytes = cbcDecrypt d (c counter) ct in
       let same : cbcDecrypt d (c counter) (take n copied) ≡ padded = ap (cbcDecrypt d (c counter)) start in
       let l2 : length padded ≡ n = sym (ap length same) ∙ l in

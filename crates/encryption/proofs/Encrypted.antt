@@ -9,11 +9,11 @@ use native.Mathlib.Omega.{arith}
 use borrow.Author.Tests.{eq-eqb, ne-eqb, eqb-true, eqb-false}
 use lib.Dec.{eqb}
 use lib.ListN.{length, take, drop, length-append}
-use lib.Seq.{take-at, drop-append-seam}
+use lib.Seq.{drop-append-seam}
 use Rattle.octets.specs.Bytes.{Bytes}
 use Rattle.octets.specs.Choice.{if_then_else_}
 use Rattle.octets.specs.Write.{over, put, Wrote}
-use Rattle.octets.proofs.Writing.{wrote-all, put-start}
+use Rattle.octets.proofs.Writing.{wrote-all, wrote-start, put-start}
 use Rattle.padding.specs.Padding.{pad, paddedLength}
 use Rattle.padding.proofs.Lengths.{length-pad}
 use Rattle.objects.specs.Lengths.{ciphertextLength}
@@ -62,7 +62,7 @@ module _ (suite : Suite) (key counter d : Bytes) (h : length key ≡ 32) (some :
   encrypted-in xs ys zs n w e =
       let e0 : n ≡ length (pad d) = w .end ∙ zero-add (length (pad d)) in
       let held : ys ≡ over xs (pad d) = wrote-all w in
-      let start : take n ys ≡ pad d = ap (take n) held ∙ take-at (pad d) (drop (length (pad d)) xs) n (sym e0) in
+      let start : take n ys ≡ pad d = wrote-start w in
       let x : Bytes = cbcEncrypt c (c counter) (pad d) in
       record {
         end = e0 ∙ sym (length-is) ∙ ap length encrypt-is ∙ sym (zero-add (length (encrypt (keyIn suite key) counter d)));

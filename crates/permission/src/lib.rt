@@ -1,10 +1,12 @@
 // Which commands and statuses are permitted (document 01, "Objects, encryption and MAC").
 use fields::Need;
+use fields::Second;
+use fields::Wanted;
 ghost use mathlib.Core.Path.{_≡_};
 ghost use Prim.Native.Nat.{_<_};
 ghost use lib.Dec.{ltb};
 ghost use Rattle.field_laws.specs.Written.{suits};
-ghost use Rattle.protocol.specs.Permission.{insPermitted, leNeed, dataNeed, commandPermitted, statusPermitted};
+ghost use Rattle.protocol.specs.Permission.{insPermitted, leNeed, dataNeed, commandPermitted, statusPermitted, commandWanted, responseWanted};
 
 const VERIFY: u8 = 0x20;
 
@@ -79,4 +81,28 @@ pub fn status_permitted(sw1: u8, sw2: u8) -> bool
     ensures { λ r. ⌜ r ≡ statusPermitted (record { sw1 = sw1; sw2 = sw2 }) ⌝ }
 {
     sw1 != 0x61
+}
+
+// What a command's field is read for.
+pub fn command_wanted(ins: u8) -> Wanted
+    ensures { λ wanted. ⌜ wanted ≡ commandWanted ins ⌝ }
+{
+    let data = data_need(ins);
+    let le = le_need(ins);
+    Wanted {
+        data,
+        limit: 2048,
+        second: Second::Le(le),
+    }
+}
+
+// What a response's field is read for, beside a status word.
+pub fn response_wanted(sw1: u8, sw2: u8) -> Wanted
+    ensures { λ wanted. ⌜ wanted ≡ responseWanted (record { sw1 = sw1; sw2 = sw2 }) ⌝ }
+{
+    Wanted {
+        data: Need::May,
+        limit: 16384,
+        second: Second::Status(sw1, sw2),
+    }
 }

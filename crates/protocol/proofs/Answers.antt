@@ -33,8 +33,8 @@ use Rattle.protocol.specs.Message.{CommandHeader, StatusWord, Message, R
 use Rattle.protocol.specs.Permission.{insPermitted, leNeed, dataNeed, commandPermitted, statusPermitted, commandWanted, responseWanted}
 use Rattle.counter.specs.Counter.{bigEndian, commandCounter, responseCounter}
 use Rattle.protocol.specs.Answer.{Answer, refused, gave, Out, require_else_⨾_, _and-then_, afterRefusal, concluded, objectsOf, textOf}
-use Rattle.protocol.specs.Command.{CommandGiven, commandInput, wrapCommandChecks, unwrapCommandChecks, commandMac, commandAccepted, cardUnwraps}
-use Rattle.protocol.specs.Response.{wrapResponseChecks, unwrapResponseChecks, responseMac, responseAccepted, hostUnwraps}
+use Rattle.protocol.specs.Command.{CommandGiven, commandInput, wrapCommandChecks, unwrapCommandChecks, commandMac, commandAccepted, openCommand, cardUnwraps}
+use Rattle.protocol.specs.Response.{wrapResponseChecks, unwrapResponseChecks, responseMac, responseAccepted, openResponse, hostUnwraps}
 
 -- number and extra; nothing where the call is not refused
 numbers : {A : Type 0} → Answer A → List ℕ
@@ -141,7 +141,7 @@ record Answered : Type 0 where
   x10-left : phaseOf (host (reply 0) 16 .next) ≡ 0 ∷ 0 ∷ []
 
 answered : Answered
-unfolding numbers at head bad sw field reply phaseOf card host same padding pad paddedLength marked markBefore unpad lengthField readLength isShortest rank allowed rightSize rightSecond rightValue need_else_⨾_ withLength readObject notedObject ended onObject walk readField object encryptedData leObject statusWord macObject commandObjects responseObjects commandField responseField ciphertextLength encryptedDataLength commandLength responseLength encodedHeader commandMacInput responseMacInput allZero keysEnd keysZero mcvsZero keepsPhase valid countsAsOpen isTurn insPermitted leNeed dataNeed commandPermitted statusPermitted commandWanted responseWanted bigEndian commandCounter responseCounter require_else_⨾_ _and-then_ afterRefusal concluded objectsOf textOf commandInput wrapCommandChecks unwrapCommandChecks commandMac commandAccepted cardUnwraps wrapResponseChecks unwrapResponseChecks responseMac responseAccepted hostUnwraps
+unfolding numbers at head bad sw field reply phaseOf card host same padding pad paddedLength marked markBefore unpad lengthField readLength isShortest rank allowed rightSize rightSecond rightValue need_else_⨾_ withLength readObject notedObject ended onObject walk readField object encryptedData leObject statusWord macObject commandObjects responseObjects commandField responseField ciphertextLength encryptedDataLength commandLength responseLength encodedHeader commandMacInput responseMacInput allZero keysEnd keysZero mcvsZero keepsPhase valid countsAsOpen isTurn insPermitted leNeed dataNeed commandPermitted statusPermitted commandWanted responseWanted bigEndian commandCounter responseCounter require_else_⨾_ _and-then_ afterRefusal concluded objectsOf textOf commandInput wrapCommandChecks unwrapCommandChecks commandMac commandAccepted openCommand cardUnwraps wrapResponseChecks unwrapResponseChecks responseMac responseAccepted openResponse hostUnwraps
 answered =
     record {
       counter-1 = refl;

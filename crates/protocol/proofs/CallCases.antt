@@ -32,9 +32,9 @@ use Rattle.ciphers.specs.Ciphers.{Ciphers}
 use Rattle.protocol.specs.Message.{CommandHeader, StatusWord, Message, Command, Response, maxCommandData, maxResponseData, maxCommandField, maxResponseField, commandLimit}
 use Rattle.protocol.specs.Permission.{insPermitted, commandPermitted, statusPermitted, commandWanted, responseWanted}
 use Rattle.counter.specs.Counter.{commandCounter, responseCounter}
-use Rattle.protocol.specs.Answer.{Answer, refused, gave, require_else_⨾_, _and-then_, Outcome, Out, afterRefusal, concluded, objectsOf, textOf}
-use Rattle.protocol.specs.Command.{wrapCommandChecks, unwrapCommandChecks, CommandGiven, commandMac, commandCiphertext, commandWrapped, commandAccepted, headerRead, hostWraps, cardUnwraps}
-use Rattle.protocol.specs.Response.{wrapResponseChecks, unwrapResponseChecks, responseMac, responseCiphertext, responseWrapped, responseAccepted, cardWraps, hostUnwraps}
+use Rattle.protocol.specs.Answer.{Answer, refused, gave, require_else_⨾_, _and-then_, Outcome, Out, afterRefusal, concluded, objectsOf, textOf, notGiven, given}
+use Rattle.protocol.specs.Command.{wrapCommandChecks, unwrapCommandChecks, CommandGiven, commandMac, commandCiphertext, commandWrapped, commandAccepted, headerRead, hostWraps, openCommand, cardUnwraps}
+use Rattle.protocol.specs.Response.{wrapResponseChecks, unwrapResponseChecks, responseMac, responseCiphertext, responseWrapped, responseAccepted, cardWraps, openResponse, hostUnwraps}
 
 -- ---- stages
 
@@ -170,15 +170,12 @@ may-unwrap-response s sw n u e =
 -- ---- each call
 
 module _ (C : Ciphers) where
-  -- what a refusal leaves, and what an acceptance leaves
+  -- of every refusal
   abbrev pub Refuses : {A : Type 0} → (Out A → Type 0) → Session → Type 0
-  Refuses Q s = (r : Refusal) → Q (record { answer = refused r; next = afterRefusal s r })
-
-  abbrev pub done : {A : Type 0} → Outcome A → Out A
-  done o = record { answer = gave (o .gives); next = o .next }
+  Refuses Q s = (r : Refusal) → Q (notGiven s r)
 
   pub host-wraps : (Q : Out Bytes → Type 0) (s : Session) (m : Command) (room : ℕ) → Refuses Q s
-      → (MayWrapCommand s (m .header) (length (m .payload)) room → Q (done (commandWrapped C s (m .header) (commandCiphertext C s (m .payload)))))
+      → (MayWrapCommand s (m .header) (length (m .payload)) room → Q (given (commandWrapped C s (m .header) (commandCiphertext C s (m .payload)))))
       → Q (hostWraps C s m room)
   unfolding hostWraps concluded
   host-wraps Q s m room stop go =
@@ -186,7 +183,7 @@ module _ (C : Ciphers) where
       (λ u e. go (may-wrap-command s (m .header) (length (m .payload)) room u e))
 
   pub card-wraps : (Q : Out Bytes → Type 0) (s : Session) (m : Response) (room : ℕ) → Refuses Q s
-      → (MayWrapResponse s (m .header) (length (m .payload)) room → Q (done (responseWrapped C s (m .header) (responseCiphertext C s (m .payload)))))
+      → (MayWrapResponse s (m .header) (length (m .payload)) room → Q (given (responseWrapped C s (m .header) (responseCiphertext C s (m .payload)))))
       → Q (cardWraps C s m room)
   unfolding cardWraps concluded
   card-wraps Q s m room stop go =
@@ -202,9 +199,9 @@ module _ (C : Ciphers) where
     pub text : C .decrypt (keyIn (s .suite) (s .«sk_enc»)) (commandCounter (s .count + 1)) (ciphertextOf field o) ≡ some d
 
   pub card-unwraps : (Q : Out CommandGiven → Type 0) (s : Session) (ins p1 p2 : ℕ) (field : Bytes) (room : ℕ) → Refuses Q s
-      → ((o : Objects) (d : Bytes) → CommandRead s ins p1 p2 field room o d → Q (done (commandAccepted C s ins p1 p2 field o d)))
+      → ((o : Objects) (d : Bytes) → CommandRead s ins p1 p2 field room o d → Q (given (commandAccepted C s ins p1 p2 field o d)))
       → Q (cardUnwraps C s ins p1 p2 field room)
-  unfolding cardUnwraps concluded
+  unfolding openCommand cardUnwraps concluded
   card-unwraps Q s ins p1 p2 field room stop go =
       let R : Answer (Outcome CommandGiven) → Type 0 = λ a. Q (concluded s a) in
       then-case R (unwrapCommandChecks s ins (length field)) _ (λ r e. stop r) (λ u e.
@@ -228,9 +225,9 @@ module _ (C : Ciphers) where
     pub text : C .decrypt (keyIn (s .suite) (s .«sk_enc»)) (responseCounter (s .count)) (ciphertextOf field o) ≡ some d
 
   pub host-unwraps : (Q : Out Response → Type 0) (s : Session) (sw : StatusWord) (field : Bytes) (room : ℕ) → Refuses Q s
-      → ((o : Objects) (d : Bytes) → ResponseRead s sw field room o d → Q (done (responseAccepted C s sw field o d)))
+      → ((o : Objects) (d : Bytes) → ResponseRead s sw field room o d → Q (given (responseAccepted C s sw field o d)))
       → Q (hostUnwraps C s sw field room)
-  unfolding hostUnwraps concluded
+  unfolding openResponse hostUnwraps concluded
   host-unwraps Q s sw field room stop go =
       let R : Answer (Outcome Response) → Type 0 = λ a. Q (concluded s a) in
       then-case R (unwrapResponseChecks s sw (length field)) _ (λ r e. stop r) (λ u e.

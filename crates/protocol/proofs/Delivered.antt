@@ -41,8 +41,8 @@ use Rattle.protocol.specs.Message.{CommandHeader, StatusWord, Message, C
 use Rattle.protocol.specs.Permission.{insPermitted, dataNeed, leNeed, commandPermitted, statusPermitted, commandWanted, responseWanted}
 use Rattle.counter.specs.Counter.{commandCounter, responseCounter}
 use Rattle.protocol.specs.Answer.{Answer, refused, gave, require_else_⨾_, _and-then_, Outcome, Out, concluded, objectsOf, textOf}
-use Rattle.protocol.specs.Command.{CommandGiven, wrapCommandChecks, unwrapCommandChecks, commandInput, commandMac, commandCiphertext, commandWrapped, commandAccepted, headerRead, hostWraps, cardUnwraps}
-use Rattle.protocol.specs.Response.{wrapResponseChecks, unwrapResponseChecks, responseMac, responseCiphertext, responseWrapped, responseAccepted, cardWraps, hostUnwraps}
+use Rattle.protocol.specs.Command.{CommandGiven, wrapCommandChecks, unwrapCommandChecks, commandInput, commandMac, commandCiphertext, commandWrapped, commandAccepted, headerRead, hostWraps, openCommand, cardUnwraps}
+use Rattle.protocol.specs.Response.{wrapResponseChecks, unwrapResponseChecks, responseMac, responseCiphertext, responseWrapped, responseAccepted, cardWraps, openResponse, hostUnwraps}
 use Rattle.protocol.specs.HonestDelivery.{InStep, Keyed, CommandDelivered, DeliversCommands, ResponseDelivered, DeliversResponses, OpensInStep}
 use Rattle.validity.proofs.KeepsTheRules.{opening-served, command-served, response-served}
 use Rattle.protocol.proofs.Channel.{command-lawful, response-lawful}
@@ -203,7 +203,7 @@ module _ (C : Ciphers) (L : Laws C) (h c : Session) (m : Command) (wrapRoom unwr
 
   unwraps : cardUnwraps C c (m .header .ins) (m .header .p1) (m .header .p2) field unwrapRoom
       ≡ record { answer = gave (record { payload = m .payload; le = m .header .le }); next = commandTaken c full }
-  unfolding cardUnwraps commandAccepted concluded _and-then_ objectsOf textOf require_else_⨾_
+  unfolding openCommand cardUnwraps commandAccepted concluded _and-then_ objectsOf textOf require_else_⨾_
   unwraps =
       rw (
         unwrap-checks,
@@ -334,7 +334,7 @@ module _ (C : Ciphers) (L : Laws C) (h c : Session) (m : Response) (wrapRoom unw
       (response-lawful (record { enc = []; mac = []; rmac = [] }) .counter-is (h .count)) bytes
 
   response-unwraps : hostUnwraps C h (m .header) sent unwrapRoom ≡ record { answer = gave m; next = responseTaken h whole }
-  unfolding hostUnwraps responseAccepted concluded _and-then_ objectsOf textOf require_else_⨾_
+  unfolding openResponse hostUnwraps responseAccepted concluded _and-then_ objectsOf textOf require_else_⨾_
   response-unwraps =
       rw (
         response-unwrap-checks,

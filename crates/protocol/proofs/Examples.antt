@@ -39,8 +39,8 @@ use Rattle.protocol.specs.Message.{CommandHeader, StatusWord, Message, C
 use Rattle.protocol.specs.Permission.{insPermitted, leNeed, dataNeed, commandPermitted, statusPermitted, commandWanted, responseWanted}
 use Rattle.counter.specs.Counter.{bigEndian, commandCounter, responseCounter}
 use Rattle.protocol.specs.Answer.{Answer, refused, gave, require_else_⨾_, _and-then_, afterRefusal, concluded, objectsOf, textOf}
-use Rattle.protocol.specs.Command.{commandInput, wrapCommandChecks, unwrapCommandChecks, commandMac, commandCiphertext, commandWrapped, commandAccepted, hostWraps, cardUnwraps}
-use Rattle.protocol.specs.Response.{wrapResponseChecks, unwrapResponseChecks, responseMac, responseCiphertext, responseWrapped, responseAccepted, cardWraps, hostUnwraps}
+use Rattle.protocol.specs.Command.{commandInput, wrapCommandChecks, unwrapCommandChecks, commandMac, commandCiphertext, commandWrapped, commandAccepted, hostWraps, openCommand, cardUnwraps}
+use Rattle.protocol.specs.Response.{wrapResponseChecks, unwrapResponseChecks, responseMac, responseCiphertext, responseWrapped, responseAccepted, cardWraps, openResponse, hostUnwraps}
 use Rattle.protocol.specs.Transcript.{Call, wrapCommand, unwrapCommand, wrapResponse, unwrapResponse, close, Entry, messages, inputs, Transcript, lastMac, chaining, encrypted, wrapped, received, acceptedCommand, acceptedResponse, noted, entered, State, moved, does, step, run, start}
 use Rattle.protocol.specs.Agreement.{Agrees, chainingValues, Collision, MacBreak, Excepted, AllBytes}
 
@@ -357,7 +357,7 @@ record Computed : Type 0 where
   same-chaining-value : Excepted flat keys begin repeated
 
 computed : Computed
-unfolding toyMac xorAll toyEncrypt toyDecrypt toy keys verify getData okay certificate fieldOf begin exchange two counts same padding pad paddedLength marked markBefore unpad lengthField readLength isShortest rank allowed rightSize rightSecond rightValue need_else_⨾_ withLength readObject notedObject ended onObject walk readField object encryptedData leObject statusWord macObject commandObjects responseObjects commandField responseField ciphertextLength encryptedDataLength commandLength responseLength encodedHeader commandMacInput responseMacInput allZero keysEnd keysZero mcvsZero keepsPhase valid countsAsOpen isTurn keysFit openSuite opening dataIn insPermitted leNeed dataNeed commandPermitted statusPermitted commandWanted responseWanted bigEndian commandCounter responseCounter require_else_⨾_ _and-then_ afterRefusal concluded objectsOf textOf commandInput wrapCommandChecks unwrapCommandChecks commandMac commandCiphertext commandWrapped commandAccepted hostWraps cardUnwraps wrapResponseChecks unwrapResponseChecks responseMac responseCiphertext responseWrapped responseAccepted cardWraps hostUnwraps lastMac chaining encrypted wrapped received acceptedCommand acceptedResponse noted entered moved does step run flat among distinct chainingValues forged received-as other-header other-data authenticate with-le more-commands more-responses header-changed data-changed le-changed status-changed one-wrapped never-wrapped check repeated mac-changed response-again mixed allBytes response-data-changed entry reply two-outstanding answer-to-nothing dataOf p2Of sizeOf leOf sw1Of
+unfolding toyMac xorAll toyEncrypt toyDecrypt toy keys verify getData okay certificate fieldOf begin exchange two counts same padding pad paddedLength marked markBefore unpad lengthField readLength isShortest rank allowed rightSize rightSecond rightValue need_else_⨾_ withLength readObject notedObject ended onObject walk readField object encryptedData leObject statusWord macObject commandObjects responseObjects commandField responseField ciphertextLength encryptedDataLength commandLength responseLength encodedHeader commandMacInput responseMacInput allZero keysEnd keysZero mcvsZero keepsPhase valid countsAsOpen isTurn keysFit openSuite opening dataIn insPermitted leNeed dataNeed commandPermitted statusPermitted commandWanted responseWanted bigEndian commandCounter responseCounter require_else_⨾_ _and-then_ afterRefusal concluded objectsOf textOf commandInput wrapCommandChecks unwrapCommandChecks commandMac commandCiphertext commandWrapped commandAccepted hostWraps openCommand cardUnwraps wrapResponseChecks unwrapResponseChecks responseMac responseCiphertext responseWrapped responseAccepted cardWraps openResponse hostUnwraps lastMac chaining encrypted wrapped received acceptedCommand acceptedResponse noted entered moved does step run flat among distinct chainingValues forged received-as other-header other-data authenticate with-le more-commands more-responses header-changed data-changed le-changed status-changed one-wrapped never-wrapped check repeated mac-changed response-again mixed allBytes response-data-changed entry reply two-outstanding answer-to-nothing dataOf p2Of sizeOf leOf sw1Of
 computed =
     record {
       counted = refl;

@@ -25,8 +25,8 @@ use Rattle.ciphers.specs.Ciphers.{Ciphers}
 use Rattle.protocol.specs.Permission.{commandWanted, responseWanted}
 use Rattle.counter.specs.Counter.{commandCounter, responseCounter}
 use Rattle.protocol.specs.Answer.{Answer, refused, gave, require_else_⨾_, _and-then_, Outcome, Out, afterRefusal, concluded, objectsOf, textOf, buffer}
-use Rattle.protocol.specs.Command.{wrapCommandChecks, unwrapCommandChecks, hostWraps, cardUnwraps}
-use Rattle.protocol.specs.Response.{wrapResponseChecks, unwrapResponseChecks, cardWraps, hostUnwraps}
+use Rattle.protocol.specs.Command.{wrapCommandChecks, unwrapCommandChecks, hostWraps, openCommand, cardUnwraps}
+use Rattle.protocol.specs.Response.{wrapResponseChecks, unwrapResponseChecks, cardWraps, openResponse, hostUnwraps}
 use Rattle.protocol.specs.Transcript.{Call, wrapCommand, unwrapCommand, wrapResponse, unwrapResponse, close, Gives, does}
 use Rattle.protocol.specs.RefusalKeeps.{order, writes, IsClosed, Keeps, RefusalKeeps}
 
@@ -86,7 +86,7 @@ later h = List·Memᴰ·tail h
 
 module _ (C : Ciphers) (s : Session) where
   in-order : (c : Call) → Among (order c) (does C s c .answer)
-  unfolding does hostWraps cardUnwraps cardWraps hostUnwraps wrapCommandChecks unwrapCommandChecks wrapResponseChecks unwrapResponseChecks
+  unfolding does hostWraps openCommand cardUnwraps cardWraps openResponse hostUnwraps wrapCommandChecks unwrapCommandChecks wrapResponseChecks unwrapResponseChecks
   in-order (wrapCommand side m room) =
       let ns : List ℕ = 1 ∷ 2 ∷ 3 ∷ 4 ∷ 5 ∷ 6 ∷ [] in
       concluded-among ns s _ (then-among ns _ _
@@ -143,7 +143,7 @@ module _ (C : Ciphers) (s : Session) where
   left A (gave x) r e = no-refusal e
 
   next-is : (c : Call) (r : Refusal) → does C s c .answer ≡ refused r → does C s c .next ≡ afterRefusal s r
-  unfolding does hostWraps cardUnwraps cardWraps hostUnwraps
+  unfolding does hostWraps openCommand cardUnwraps cardWraps openResponse hostUnwraps
   next-is (wrapCommand side m room) r e = left _ _ r e
   next-is (unwrapCommand side ins p1 p2 field room) r e = left _ _ r e
   next-is (wrapResponse side m room) r e = left _ _ r e

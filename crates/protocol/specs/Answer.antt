@@ -42,9 +42,16 @@ pub record Out (A : Type 0) : Type 0 where
 unfoldable pub afterRefusal : Session → Refusal → Session
 afterRefusal s r = if eqb (number r) 9 || eqb (number r) 10 then closed s else s
 
+-- a call that is refused, and one that is not
+abbrev pub notGiven : {A : Type 0} → Session → Refusal → Out A
+notGiven s r = record { answer = refused r; next = afterRefusal s r }
+
+abbrev pub given : {A : Type 0} → Outcome A → Out A
+given o = record { answer = gave (o .gives); next = o .next }
+
 unfoldable pub concluded : {A : Type 0} → Session → Answer (Outcome A) → Out A
-concluded s (refused r) = record { answer = refused r; next = afterRefusal s r }
-concluded s (gave o) = record { answer = gave (o .gives); next = o .next }
+concluded s (refused r) = notGiven s r
+concluded s (gave o) = given o
 
 -- the caller's buffer, which held some bytes: at a refusal it stays; else what the call writes stands over its start
 unfoldable pub buffer : {A : Type 0} → (A → Bytes) → Bytes → Answer A → Bytes

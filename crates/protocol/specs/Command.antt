@@ -87,13 +87,18 @@ module _ (C : Ciphers) where
         next = commandTaken s (commandMac s (headerRead ins p1 p2 o) (coveredOf field o));
       }
 
+  -- the stages behind the reading: room, MAC, text
+  unfoldable pub openCommand : Session → ℕ → ℕ → ℕ → Bytes → ℕ → Objects → Answer (Outcome CommandGiven)
+  openCommand s ins p1 p2 field room o =
+      require leb (o .«ciphertext_len») room else BufferTooSmall (o .«ciphertext_len») ⨾
+      require same (macOf field o) (take 8 (commandMac s (headerRead ins p1 p2 o) (coveredOf field o))) else BadMac ⨾
+      textOf (C .decrypt (keyIn (s .suite) (s .«sk_enc»)) (commandCounter (s .count + 1)) (ciphertextOf field o)) and-then (λ d.
+      gave (commandAccepted s ins p1 p2 field o d))
+
   unfoldable pub cardUnwraps : Session → ℕ → ℕ → ℕ → Bytes → ℕ → Out CommandGiven
   cardUnwraps s ins p1 p2 field room =
       concluded s (
       unwrapCommandChecks s ins (length field) and-then (λ checked.
       objectsOf (readField (commandWanted ins) field) and-then (λ o.
-      require leb (o .«ciphertext_len») room else BufferTooSmall (o .«ciphertext_len») ⨾
-      require same (macOf field o) (take 8 (commandMac s (headerRead ins p1 p2 o) (coveredOf field o))) else BadMac ⨾
-      textOf (C .decrypt (keyIn (s .suite) (s .«sk_enc»)) (commandCounter (s .count + 1)) (ciphertextOf field o)) and-then (λ d.
-      gave (commandAccepted s ins p1 p2 field o d))))
+      openCommand s ins p1 p2 field room o))
       )

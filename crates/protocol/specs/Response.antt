@@ -67,13 +67,18 @@ module _ (C : Ciphers) where
   responseAccepted s sw field o d =
       record { gives = record { header = sw; payload = d }; next = responseTaken s (responseMac s (coveredOf field o)) }
 
+  -- the stages behind the reading: room, MAC, text
+  unfoldable pub openResponse : Session → StatusWord → Bytes → ℕ → Objects → Answer (Outcome Response)
+  openResponse s sw field room o =
+      require leb (o .«ciphertext_len») room else BufferTooSmall (o .«ciphertext_len») ⨾
+      require same (macOf field o) (take 8 (responseMac s (coveredOf field o))) else BadMac ⨾
+      textOf (C .decrypt (keyIn (s .suite) (s .«sk_enc»)) (responseCounter (s .count)) (ciphertextOf field o)) and-then (λ d.
+      gave (responseAccepted s sw field o d))
+
   unfoldable pub hostUnwraps : Session → StatusWord → Bytes → ℕ → Out Response
   hostUnwraps s sw field room =
       concluded s (
       unwrapResponseChecks s sw (length field) and-then (λ checked.
       objectsOf (readField (responseWanted sw) field) and-then (λ o.
-      require leb (o .«ciphertext_len») room else BufferTooSmall (o .«ciphertext_len») ⨾
-      require same (macOf field o) (take 8 (responseMac s (coveredOf field o))) else BadMac ⨾
-      textOf (C .decrypt (keyIn (s .suite) (s .«sk_enc»)) (responseCounter (s .count)) (ciphertextOf field o)) and-then (λ d.
-      gave (responseAccepted s sw field o d))))
+      openResponse s sw field room o))
       )

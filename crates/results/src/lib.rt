@@ -2,7 +2,8 @@
 use refusal::Refusal;
 use session::Session;
 ghost use mathlib.Core.Path.{_≡_};
-ghost use Rattle.protocol.specs.Answer.{afterRefusal};
+ghost use Rattle.protocol.specs.Answer.{afterRefusal, notGiven};
+ghost use Rattle.results.specs.Results.{wrapResult, commandResult, responseResult};
 
 // Of the tests of a call.
 pub enum Checked {
@@ -44,7 +45,7 @@ pub struct ResponseResult {
 }
 
 // A wrong MAC and wrong padding close the session; every other refusal keeps it as it was.
-pub fn after_refusal(session: Session, refusal: Refusal) -> Session
+fn after_refusal(session: Session, refusal: Refusal) -> Session
     ensures { λ next. ⌜ next ≡ afterRefusal session refusal ⌝ }
 {
     let number = refusal.number();
@@ -55,4 +56,37 @@ pub fn after_refusal(session: Session, refusal: Refusal) -> Session
         return session.close();
     }
     session
+}
+
+// A refused wrap.
+pub fn refused_wrap(session: Session, refusal: Refusal) -> WrapResult
+    ensures { λ r. ⌜ r ≡ wrapResult (notGiven session refusal) ⌝ }
+{
+    let next = after_refusal(session, refusal);
+    WrapResult {
+        answer: WrapAnswer::Refused(refusal),
+        session: next,
+    }
+}
+
+// A refused unwrap of the card's.
+pub fn refused_command(session: Session, refusal: Refusal) -> CommandResult
+    ensures { λ r. ⌜ r ≡ commandResult (notGiven session refusal) ⌝ }
+{
+    let next = after_refusal(session, refusal);
+    CommandResult {
+        answer: CommandAnswer::Refused(refusal),
+        session: next,
+    }
+}
+
+// A refused unwrap of the host's.
+pub fn refused_response(session: Session, refusal: Refusal) -> ResponseResult
+    ensures { λ r. ⌜ r ≡ responseResult (notGiven session refusal) ⌝ }
+{
+    let next = after_refusal(session, refusal);
+    ResponseResult {
+        answer: ResponseAnswer::Refused(refusal),
+        session: next,
+    }
 }

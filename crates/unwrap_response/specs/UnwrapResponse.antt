@@ -1,0 +1,28 @@
+-- The host's unwrap with AES, by the function's own parameters. Assumes nothing.
+use Prim.Native.Nat.{ℕ}
+use Rattle.octets.specs.Bytes.{Bytes}
+use Rattle.fields.specs.Field.{readField}
+use Rattle.fields.specs.declared.Objects.{Objects}
+use Rattle.session.specs.declared.Session.{Session}
+use Rattle.ciphers.specs.Aes.{aesCiphers}
+use Rattle.protocol.specs.Message.{StatusWord, Response}
+use Rattle.protocol.specs.Permission.{responseWanted}
+use Rattle.protocol.specs.Answer.{Answer, _and-then_, Outcome, Out, objectsOf}
+use Rattle.protocol.specs.Response.{openResponse as opens, hostUnwraps}
+
+abbrev pub status : ℕ → ℕ → StatusWord
+status sw1 sw2 = record { sw1 = sw1; sw2 = sw2 }
+
+abbrev pub unwrapResponse : Session → ℕ → ℕ → Bytes → ℕ → Out Response
+unwrapResponse s sw1 sw2 = hostUnwraps aesCiphers s (status sw1 sw2)
+
+-- its stages: behind the reading, and behind the tests
+abbrev pub openResponse : Session → ℕ → ℕ → Bytes → ℕ → Objects → Answer (Outcome Response)
+openResponse s sw1 sw2 = opens aesCiphers s (status sw1 sw2)
+
+abbrev pub readResponse : Session → ℕ → ℕ → Bytes → ℕ → Answer (Outcome Response)
+readResponse s sw1 sw2 field room = objectsOf (readField (responseWanted (status sw1 sw2)) field) and-then (λ o. openResponse s sw1 sw2 field room o)
+
+-- what stands in the caller's buffer
+abbrev pub payloadOf : Response → Bytes
+payloadOf m = m .payload

@@ -1,0 +1,105 @@
+// The host unwraps a response (SP 800-73-4 Part 2, 4.2.2 and 4.2.5): the MAC is checked before anything is decrypted, the padding before anything is
+// written.
+use compare::mac_matches;
+use counter::response_counter;
+use decryption::decrypt_text;
+use fields::FieldRead;
+use fields::Objects;
+use fields::read_field;
+use padding::Unpadded;
+use permission::response_wanted;
+use refusal::Refusal;
+use response_checks::unwrap_response_checks;
+use results::Checked;
+use results::ResponseAnswer;
+use results::ResponseResult;
+use results::refused_response;
+use session::Session;
+use session_mac::response_mac;
+use session_mac::truncated;
+ghost use mathlib.Core.Path.{_≡_};
+ghost use Prim.Native.Nat.{_≤_};
+ghost use lib.ListN.{length};
+ghost use Rattle.fields.specs.Field.{readField};
+ghost use Rattle.protocol.specs.Permission.{responseWanted};
+ghost use Rattle.protocol.specs.Answer.{concluded, buffer};
+ghost use Rattle.results.specs.Results.{responseResult};
+ghost use Rattle.unwrap_response.specs.UnwrapResponse.{status, unwrapResponse, readResponse, openResponse, payloadOf};
+
+// Of a field whose objects are these: refusals 6, 9 and 10.
+fn open_response(
+    session: Session,
+    sw1: u8,
+    sw2: u8,
+    field: &[u8],
+    objects: Objects,
+    out: &mut [u8],
+) -> ResponseResult
+    requires { ⌜ (session .count ≤ 65535) × (readField (responseWanted (status sw1 sw2)) (now field) ≡ FieldRead.Read objects) ⌝ }
+    ensures result { λ r. ⌜ r ≡ responseResult (concluded session (openResponse session sw1 sw2 (now (field .entry)) (length (now (out .entry))) objects)) ⌝ }
+    ensures output { λ _. ⌜ now (out .exit) ≡ buffer payloadOf (now (out .entry)) (concluded session (openResponse session sw1 sw2 (now (field .entry)) (length (now (out .entry))) objects) .answer) ⌝ }
+{
+    let start = objects.ciphertext;
+    let needed = objects.ciphertext_len;
+    let covered = objects.mac_start;
+    if needed > out.len() {
+        return refused_response(session, Refusal::BufferTooSmall(needed));
+    }
+    let suite = session.suite;
+    let sk_rmac = session.sk_rmac;
+    let mcv = session.response_mcv;
+    let full = response_mac(suite, sk_rmac, mcv, &field[..covered]);
+    if !mac_matches(field, objects.mac, truncated(full)) {
+        return refused_response(session, Refusal::BadMac);
+    }
+    let sk_enc = session.sk_enc;
+    let counter = response_counter(session.count);
+    let end = start + needed;
+    let text = decrypt_text(suite, sk_enc, counter, &field[start..end], out);
+    let Unpadded::Data(n) = text else {
+        return refused_response(session, Refusal::BadPadding);
+    };
+    let next = session.response_taken(full);
+    ResponseResult {
+        answer: ResponseAnswer::Accepted(n, sw1, sw2),
+        session: next,
+    }
+}
+
+// Of a response that passed its tests: refusals 7 and 8, and those behind them.
+fn read_response(
+    session: Session,
+    sw1: u8,
+    sw2: u8,
+    field: &[u8],
+    out: &mut [u8],
+) -> ResponseResult
+    requires { ⌜ session .count ≤ 65535 ⌝ }
+    ensures result { λ r. ⌜ r ≡ responseResult (concluded session (readResponse session sw1 sw2 (now (field .entry)) (length (now (out .entry))))) ⌝ }
+    ensures output { λ _. ⌜ now (out .exit) ≡ buffer payloadOf (now (out .entry)) (concluded session (readResponse session sw1 sw2 (now (field .entry)) (length (now (out .entry)))) .answer) ⌝ }
+{
+    let read = read_field(response_wanted(sw1, sw2), field);
+    match read {
+        FieldRead::Read(objects) => open_response(session, sw1, sw2, field, objects, out),
+        FieldRead::Malformed(_) => refused_response(session, Refusal::Malformed),
+        FieldRead::Missing(_, _) => refused_response(session, Refusal::MissingObject),
+    }
+}
+
+// The data of a field, in the caller's buffer, and the status word: refusals 1, 2, 13, 4, then 7 or 8, 6, 9 and 10.
+pub fn unwrap_response(
+    session: Session,
+    sw1: u8,
+    sw2: u8,
+    field: &[u8],
+    out: &mut [u8],
+) -> ResponseResult
+    ensures result { λ r. ⌜ r ≡ responseResult (unwrapResponse session sw1 sw2 (now (field .entry)) (length (now (out .entry)))) ⌝ }
+    ensures output { λ _. ⌜ now (out .exit) ≡ buffer payloadOf (now (out .entry)) (unwrapResponse session sw1 sw2 (now (field .entry)) (length (now (out .entry))) .answer) ⌝ }
+{
+    let checked = unwrap_response_checks(session, sw1, sw2, field.len());
+    match checked {
+        Checked::Passed => read_response(session, sw1, sw2, field, out),
+        Checked::Refused(refusal) => refused_response(session, refusal),
+    }
+}
