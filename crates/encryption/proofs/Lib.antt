@@ -1,2 +1,3 @@
 pub mod StartChanged
 pub mod Encrypted
+pub mod Room

@@ -4,7 +4,8 @@ use mathlib.Core.Path.{_≡_, refl, ap}
 use Prim.Native.Nat.{ℕ}
 use native.Mathlib.Omega.{arith}
 use Rattle.refusal.specs.declared.Refusal.{Refusal}
-use Rattle.protocol.specs.Answer.{Answer, refused, gave}
+use Rattle.session.specs.declared.Session.{Session}
+use Rattle.protocol.specs.Answer.{Answer, refused, gave, _and-then_, Outcome, notGiven, concluded}
 use Rattle.results.specs.Results.{checked}
 use Rattle.results.specs.declared.Checked.the-variants.{Passed, Refused}
 
@@ -21,3 +22,14 @@ was-passed (gave tt) e = refl
 pub was-refused : (a : Answer (Unit {0})) (r : Refusal) → checked a ≡ Refused r → a ≡ refused r
 was-refused (refused q) r e = let p : q ≡ r = cc in ap refused p
 was-refused (gave u) r e = no-refusal e
+
+-- ---- a call that begins with tests
+
+module _ {A : Type 0} (s : Session) (a : Answer (Unit {0})) (more : Unit {0} → Answer (Outcome A)) where
+  pub tests-passed : checked a ≡ Passed → concluded s (a and-then more) ≡ concluded s (more tt)
+  unfolding _and-then_
+  tests-passed e = ap (λ (b : Answer (Unit {0})). concluded s (b and-then more)) (was-passed a e)
+
+  pub test-refused : (r : Refusal) → checked a ≡ Refused r → concluded s (a and-then more) ≡ notGiven s r
+  unfolding _and-then_ concluded
+  test-refused r e = ap (λ (b : Answer (Unit {0})). concluded s (b and-then more)) (was-refused a r e)

@@ -108,3 +108,9 @@ response-served s mcv h e =
     let b = both (keysEnd s) (leb 1 (s .count)) (r .0) in
     let n = leb-true 1 (s .count) (b .1) in
     serves (responseTaken s mcv) refl (k .0) (and-intro (b .0) (rw (ne-eqb (s .count) 0 (λ z. omega arith))))
+
+-- ---- what calls are served with
+
+pub served-count : (s : Session) → countsAsOpen s ≡ true → s .count ≤ 65535
+unfolding countsAsOpen valid
+served-count s e = leb-true (s .count) 65535 (both (leb (s .count) 65535) (keepsPhase s (s .phase)) (both (isOpen (s .phase)) (valid s) e .1) .0)

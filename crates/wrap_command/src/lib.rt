@@ -12,7 +12,7 @@ use session::Session;
 use session_mac::command_mac;
 use session_mac::truncated;
 ghost use mathlib.Core.Path.{_≡_};
-ghost use Prim.Native.Nat.{_<_, _≤_};
+ghost use Prim.Native.Nat.{_+_, _<_, _≤_};
 ghost use lib.ListN.{length};
 ghost use Rattle.octets.specs.Bytes.{IsBytes};
 ghost use Rattle.octets.specs.Write.{over, Wrote};
@@ -21,13 +21,15 @@ ghost use Rattle.objects.specs.Lengths.{commandLength};
 ghost use Rattle.ciphers.specs.Aes.{aesCiphers};
 ghost use Rattle.protocol.specs.Answer.{given, buffer};
 ghost use Rattle.protocol.specs.Command.{commandCiphertext};
+ghost use Rattle.protocol.specs.HonestDelivery.{Keyed};
 ghost use Rattle.results.specs.Results.{wrapResult};
 ghost use Rattle.wrap_command.specs.WrapCommand.{wrapCommand, commandWritten};
 
 // The objects that the MAC covers, from index 0 on; the index behind them.
 fn put_objects(session: Session, le: bool, data: &[u8], out: &mut [u8]) -> usize
     requires { ⌜ (session .count < 65535) × (length (now «data») ≤ 2047) × (commandLength (length (now «data»)) le ≤ length (now out)) ⌝ }
-    ensures { λ n. ⌜ Wrote (now (out .entry)) 0 (commandObjects (commandCiphertext aesCiphers session (now («data» .entry))) le) n (now (out .exit)) ⌝ }
+    ensures objects { λ n. ⌜ Wrote (now (out .entry)) 0 (commandObjects (commandCiphertext aesCiphers session (now («data» .entry))) le) n (now (out .exit)) ⌝ }
+    ensures room { λ n. ⌜ n + 10 ≤ length (now (out .entry)) ⌝ }
 {
     let suite = session.suite;
     let sk_enc = session.sk_enc;
@@ -77,6 +79,7 @@ pub fn wrap_command(
     ensures result { λ r. ⌜ r ≡ wrapResult (wrapCommand session ins p1 p2 le (now («data» .entry)) (length (now (out .entry)))) ⌝ }
     ensures output { λ _. ⌜ now (out .exit) ≡ buffer (λ field. field) (now (out .entry)) (wrapCommand session ins p1 p2 le (now («data» .entry)) (length (now (out .entry))) .answer) ⌝ }
     ensures bytes { λ _. ⌜ IsBytes (now («data» .entry)) ⌝ }
+    ensures keyed { λ _. ⌜ Keyed session ⌝ }
 {
     let checked = wrap_command_checks(session, ins, p1, p2, le, data.len(), out.len());
     match checked {

@@ -7,9 +7,12 @@ use Rattle.protocol.specs.Message.{StatusWord}
 use Rattle.protocol.specs.Answer.{Outcome, Out}
 use Rattle.protocol.specs.Response.{responseCiphertext, responseWrapped, cardWraps}
 
+abbrev pub status : ℕ → ℕ → StatusWord
+status sw1 sw2 = record { sw1 = sw1; sw2 = sw2 }
+
 abbrev pub wrapResponse : Session → ℕ → ℕ → Bytes → ℕ → Out Bytes
-wrapResponse s sw1 sw2 d room = cardWraps aesCiphers s (record { header = record { sw1 = sw1; sw2 = sw2 }; payload = d }) room
+wrapResponse s sw1 sw2 d room = cardWraps aesCiphers s (record { header = status sw1 sw2; payload = d }) room
 
 -- where no test refuses
 abbrev pub responseWritten : Session → ℕ → ℕ → Bytes → Outcome Bytes
-responseWritten s sw1 sw2 d = responseWrapped aesCiphers s (record { sw1 = sw1; sw2 = sw2 }) (responseCiphertext aesCiphers s d)
+responseWritten s sw1 sw2 d = responseWrapped aesCiphers s (status sw1 sw2) (responseCiphertext aesCiphers s d)

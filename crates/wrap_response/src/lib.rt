@@ -12,7 +12,7 @@ use session::Session;
 use session_mac::response_mac;
 use session_mac::truncated;
 ghost use mathlib.Core.Path.{_≡_};
-ghost use Prim.Native.Nat.{_≤_};
+ghost use Prim.Native.Nat.{_+_, _≤_};
 ghost use lib.ListN.{length};
 ghost use Rattle.octets.specs.Bytes.{IsBytes};
 ghost use Rattle.octets.specs.Write.{over, Wrote};
@@ -21,13 +21,15 @@ ghost use Rattle.objects.specs.Lengths.{responseLength};
 ghost use Rattle.ciphers.specs.Aes.{aesCiphers};
 ghost use Rattle.protocol.specs.Answer.{given, buffer};
 ghost use Rattle.protocol.specs.Response.{responseCiphertext};
+ghost use Rattle.protocol.specs.HonestDelivery.{Keyed};
 ghost use Rattle.results.specs.Results.{wrapResult};
 ghost use Rattle.wrap_response.specs.WrapResponse.{wrapResponse, responseWritten};
 
 // The objects that the MAC covers, from index 0 on; the index behind them.
 fn put_objects(session: Session, sw1: u8, sw2: u8, data: &[u8], out: &mut [u8]) -> usize
     requires { ⌜ (session .count ≤ 65535) × (length (now «data») ≤ 16383) × (responseLength (length (now «data»)) ≤ length (now out)) ⌝ }
-    ensures { λ n. ⌜ Wrote (now (out .entry)) 0 (responseObjects (responseCiphertext aesCiphers session (now («data» .entry))) sw1 sw2) n (now (out .exit)) ⌝ }
+    ensures objects { λ n. ⌜ Wrote (now (out .entry)) 0 (responseObjects (responseCiphertext aesCiphers session (now («data» .entry))) sw1 sw2) n (now (out .exit)) ⌝ }
+    ensures room { λ n. ⌜ n + 10 ≤ length (now (out .entry)) ⌝ }
 {
     let suite = session.suite;
     let sk_enc = session.sk_enc;
@@ -61,6 +63,7 @@ pub fn wrap_response(session: Session, sw1: u8, sw2: u8, data: &[u8], out: &mut 
     ensures result { λ r. ⌜ r ≡ wrapResult (wrapResponse session sw1 sw2 (now («data» .entry)) (length (now (out .entry)))) ⌝ }
     ensures output { λ _. ⌜ now (out .exit) ≡ buffer (λ field. field) (now (out .entry)) (wrapResponse session sw1 sw2 (now («data» .entry)) (length (now (out .entry))) .answer) ⌝ }
     ensures bytes { λ _. ⌜ IsBytes (now («data» .entry)) ⌝ }
+    ensures keyed { λ _. ⌜ Keyed session ⌝ }
 {
     let checked = wrap_response_checks(session, sw1, sw2, data.len(), out.len());
     match checked {

@@ -1,58 +1,68 @@
+-- `put_objects` meets its contract: the encrypted data fits the crate's memory, and its objects the caller's buffer.
+-- Assumes nothing.
 use borrow.Author.Needs.{needs}
 use Rattle.wrap_command.proofs.put_objects.Statement.{statement}
 use Rattle.wrap_command.proofs.put_objects.Tie as tie
-use Rattle.wrap_command.proofs.put_objects.Reads as reads
-use Rattle.wrap_command.proofs.put_objects.Lts as lts
-use Rattle.counter.proofs.command_counter.Reads as command-counter-reads
-use Rattle.encryption.proofs.encrypt_text.Reads as encrypt-text-reads
-use Rattle.objects.proofs.put_command_objects.Reads as put-command-objects-reads
+use mathlib.Core.Path.{_≡_, sym, ap, _∙_}
+use native.Mathlib.Nat.{zero-add}
+use native.Mathlib.Omega.{arith}
+use lib.ListN.{length}
+use Rattle.octets.proofs.Writing.{wrote-start}
+use Rattle.session.specs.Session.{keyIn}
+use Rattle.ciphers.specs.Aes.{encrypt, aesCiphers}
+use Rattle.protocol.specs.Command.{commandCiphertext}
+use Rattle.encryption.proofs.Encrypted.{length-encrypt}
+use Rattle.encryption.proofs.Room.{ciphertext-fits, command-room}
 
--- src/lib.rt:34:35
-add-command-counter : tie.Need-add-command-counter
-add-command-counter c = search needs
-
--- src/lib.rt:34:9
-command-counter-requires : tie.Need-command-counter-requires
-command-counter-requires c κs = search needs
-
--- src/lib.rt:36:56
-slice-aggregate-encrypt-text : tie.Need-slice-aggregate-encrypt-text
-slice-aggregate-encrypt-text c = search needs
-
--- src/lib.rt:36:9
 encrypt-text-requires : tie.Need-encrypt-text-requires
-encrypt-text-requires c κs = ?
+encrypt-text-requires c κs = ciphertext-fits (length (c .before .before .before .before .before .before .args .«data» .now)) 128 (omega (arith, c .before .before .before .before .before .before .pre .1))
 
--- src/lib.rt:37:30
 array-share-prefix-text : tie.Need-array-share-prefix-text
-array-share-prefix-text c = ?
+array-share-prefix-text c =
+    let a = c .before .before .before .before .before .before .before .before .before .args in
+    let w = c .before .before .encrypt-text .ensures in
+    let key : length (a .session .«sk_enc») ≡ 32 = search (needs, c .before .before .before .before .before .before .before .before .before .good) in
+    let ct = encrypt (keyIn (a .session .suite) (a .session .«sk_enc»)) (c .before .before .before .before .command-counter .result) (a .«data» .now) in
+    let l = length-encrypt (a .session .suite) (a .session .«sk_enc») (c .before .before .before .before .command-counter .result) (a .«data» .now) key in
+    let fit = ciphertext-fits (length (a .«data» .now)) 128 (omega (arith, c .before .before .before .before .before .before .before .before .before .pre .1)) in
+    omega (arith, w .end, l, fit, c .before .before .encrypt-text .kept)
 
--- src/lib.rt:37:30
 slice-aggregate-put-command-objects : tie.Need-slice-aggregate-put-command-objects
-slice-aggregate-put-command-objects c = ?
+slice-aggregate-put-command-objects c =
+    let w = c .before .before .before .encrypt-text .ensures in w .end ∙ zero-add _ ∙ sym (ap length (wrote-start w))
 
--- src/lib.rt:37:5
 put-command-objects-requires : tie.Need-put-command-objects-requires
-put-command-objects-requires c κs = ?
+put-command-objects-requires c κs =
+    let a = c .before .before .before .before .before .before .before .before .before .before .args in
+    let w = c .before .before .before .encrypt-text .ensures in
+    let key : length (a .session .«sk_enc») ≡ 32 = search (needs, c .before .before .before .before .before .before .before .before .before .before .good) in
+    let ct = encrypt (keyIn (a .session .suite) (a .session .«sk_enc»)) (c .before .before .before .before .before .command-counter .result) (a .«data» .now) in
+    let l = length-encrypt (a .session .suite) (a .session .«sk_enc») (c .before .before .before .before .before .command-counter .result) (a .«data» .now) key in
+    let fit = ciphertext-fits (length (a .«data» .now)) 128 (omega (arith, c .before .before .before .before .before .before .before .before .before .before .pre .1)) in
+    rw (wrote-start w) (omega (arith, l, fit), omega (arith, command-room ct (length (a .«data» .now)) l (a .le), c .before .before .before .before .before .before .before .before .before .before .pre .2))
 
--- src/lib.rt:28:1
-same-length : tie.Need-same-length
-same-length c = search needs
-
--- src/lib.rt:28:1
 returns : tie.Need-returns
-returns c = ?
+unfolding commandCiphertext aesCiphers
+returns c =
+    let a = c .before .before .before .before .before .before .before .before .before .before .before .before .before .args in
+    let w = c .before .before .before .before .before .before .encrypt-text .ensures in
+    let key : length (a .session .«sk_enc») ≡ 32 = search (needs, c .before .before .before .before .before .before .before .before .before .before .before .before .before .good) in
+    let ct = encrypt (keyIn (a .session .suite) (a .session .«sk_enc»)) (c .before .before .before .before .before .before .before .before .command-counter .result) (a .«data» .now) in
+    let l = length-encrypt (a .session .suite) (a .session .«sk_enc») (c .before .before .before .before .before .before .before .before .command-counter .result) (a .«data» .now) key in
+    let fit = ciphertext-fits (length (a .«data» .now)) 128 (omega (arith, c .before .before .before .before .before .before .before .before .before .before .before .before .before .pre .1)) in
+    let p = rw (wrote-start w) at (c .before .before .put-command-objects .ensures) in
+    (rw (c .before .before .before .before .before .before .before .before .command-counter .ensures) at p, omega (arith, p .end, command-room ct (length (a .«data» .now)) l (a .le), c .before .before .before .before .before .before .before .before .before .before .before .before .before .pre .2))
 
 pub put-objects-spec : {M : Type 1} → statement M
 put-objects-spec =
     tie.close
     (tie.spec
-    add-command-counter
-    command-counter-requires
-    slice-aggregate-encrypt-text
+    (λ c. search needs)
+    (λ c κs. search needs)
+    (λ c. search needs)
     encrypt-text-requires
     array-share-prefix-text
     slice-aggregate-put-command-objects
     put-command-objects-requires
-    same-length
+    (λ c. search needs)
     returns)

@@ -1,53 +1,52 @@
+-- `wrap_command` meets its contract: refused by a test, or written.
+-- Assumes nothing.
 use borrow.Author.Needs.{needs}
 use Rattle.wrap_command.proofs.wrap_command.Statement.{statement}
 use Rattle.wrap_command.proofs.wrap_command.Tie as tie
-use Rattle.wrap_command.proofs.wrap_command.Reads as reads
-use Rattle.wrap_command.proofs.wrap_command.Lts as lts
-use Rattle.command_checks.proofs.wrap_command_checks.Reads as wrap-command-checks-reads
-use Rattle.results.proofs.refused_wrap.Reads as refused-wrap-reads
-use Rattle.wrap_command.proofs.write_command.Reads as write-command-reads
+use mathlib.Core.Path.{_≡_, sym, ap, _∙_}
+use native.Mathlib.Omega.{arith}
+use mir.Syntax.{w8}
+use mir.Val.{Fits}
+use lib.ListN.{length, getD}
+use Rattle.octets.specs.Bytes.{Bytes}
+use Rattle.protocol.specs.Answer.{Out, buffer}
+use Rattle.protocol.proofs.CallCases.{may-wrap-command}
+use Rattle.results.specs.Results.{wrapResult}
+use Rattle.results.proofs.Checks.{was-passed}
+use Rattle.results.proofs.KeysTyped.{keys-typed}
+use Rattle.wrap_command.specs.WrapCommand.{header}
+use Rattle.wrap_command.proofs.WrapCases.{when-passed, when-refused}
 
--- src/lib.rt:81:9
-wrap-command-checks-requires : tie.Need-wrap-command-checks-requires
-wrap-command-checks-requires c κs = search needs
-
--- src/lib.rt:83:74
-enum-told : tie.Need-enum-told
-enum-told c = search needs
-
--- src/lib.rt:83:28
 write-command-requires : tie.Need-write-command-requires
-write-command-requires c κs = ?
+write-command-requires c κs =
+    let a = c .before .before .before .before .before .before .args in
+    let m = may-wrap-command (a .session) (header (a .ins) (a .p1) (a .p2) (a .le)) (length (a .«data» .now)) (length (a .out .now)) tt (was-passed _ (sym (c .before .before .before .wrap-command-checks .ensures) ∙ c .before .enum-told .given .1)) in
+    (m .counted, m .short, m .fits)
 
--- src/lib.rt:84:26
-enum-known-checked : tie.Need-enum-known-checked
-enum-known-checked c = search needs
-
--- src/lib.rt:84:38
-refused-wrap-requires : tie.Need-refused-wrap-requires
-refused-wrap-requires c κs = search needs
-
--- src/lib.rt:68:1
-same-length : tie.Need-same-length
-same-length c = search needs
-
--- src/lib.rt:68:1
 returns : tie.Need-returns
-returns c = ?
+unfolding buffer
+returns c =
+    let a = c .before .before .before .before .before .before .before .before .before .args in
+    let e = sym (when-passed (a .session) (a .ins) (a .p1) (a .p2) (a .le) (a .«data» .now) (length (a .out .now)) (sym (c .before .before .before .before .before .before .wrap-command-checks .ensures) ∙ c .before .before .before .before .enum-told .given .1)) in
+    let w = c .before .before .write-command .ensures in
+    (w .0 ∙ ap wrapResult e, (w .1 ∙ ap (λ (out : Out Bytes). buffer (λ (field : Bytes). field) (a .out .now) (out .answer)) e, (λ i l. c .before .before .before .before .before .before .before .before .shared-slice-known .given i .fits, let g = c .before .before .before .before .before .before .before .before .before .good .0 in keys-typed (a .session) (search (needs, g)) (search (needs, g)) (search (needs, g)) (λ i. let f : Fits w8 (getD (a .session .«sk_enc») i 0) = search (needs, g) in f .fits) (λ i. let f : Fits w8 (getD (a .session .«sk_mac») i 0) = search (needs, g) in f .fits) (λ i. let f : Fits w8 (getD (a .session .«sk_rmac») i 0) = search (needs, g) in f .fits))))
 
--- src/lib.rt:68:1
 returns-2 : tie.Need-returns-2
-returns-2 c = ?
+unfolding buffer
+returns-2 c =
+    let a = c .before .before .before .before .before .before .before .args in
+    let e = sym (when-refused (a .session) (a .ins) (a .p1) (a .p2) (a .le) (a .«data» .now) (length (a .out .now)) _ (sym (c .before .before .before .before .wrap-command-checks .ensures) ∙ c .before .before .checked .given .1)) in
+    (c .refused-wrap .ensures ∙ ap wrapResult e, (ap (λ (out : Out Bytes). buffer (λ (field : Bytes). field) (a .out .now) (out .answer)) e, (λ i l. c .before .before .before .before .before .before .shared-slice-known .given i .fits, let g = c .before .before .before .before .before .before .before .good .0 in keys-typed (a .session) (search (needs, g)) (search (needs, g)) (search (needs, g)) (λ i. let f : Fits w8 (getD (a .session .«sk_enc») i 0) = search (needs, g) in f .fits) (λ i. let f : Fits w8 (getD (a .session .«sk_mac») i 0) = search (needs, g) in f .fits) (λ i. let f : Fits w8 (getD (a .session .«sk_rmac») i 0) = search (needs, g) in f .fits))))
 
 pub wrap-command-spec : {M : Type 1} → statement M
 wrap-command-spec =
     tie.close
     (tie.spec
-    wrap-command-checks-requires
-    enum-told
+    (λ c κs. search needs)
+    (λ c. search needs)
     write-command-requires
-    enum-known-checked
-    refused-wrap-requires
-    same-length
+    (λ c. search needs)
+    (λ c κs. search needs)
+    (λ c. search needs)
     returns
     returns-2)

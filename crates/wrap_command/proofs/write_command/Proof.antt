@@ -1,60 +1,48 @@
+-- `write_command` meets its contract: objects, their MAC, and the MAC's object behind them.
+-- Assumes nothing.
 use borrow.Author.Needs.{needs}
 use Rattle.wrap_command.proofs.write_command.Statement.{statement}
 use Rattle.wrap_command.proofs.write_command.Tie as tie
-use Rattle.wrap_command.proofs.write_command.Reads as reads
-use Rattle.wrap_command.proofs.write_command.Lts as lts
-use Rattle.objects.proofs.put_mac.Reads as put-mac-reads
-use Rattle.session.proofs.Session.command_taken.Reads as command-taken-reads
-use Rattle.session_mac.proofs.command_mac.Reads as command-mac-reads
-use Rattle.session_mac.proofs.truncated.Reads as truncated-reads
-use Rattle.wrap_command.proofs.put_objects.Reads as put-objects-reads
+use mathlib.Core.Path.{_≡_, sym, ap, _∙_}
+use native.Mathlib.Nat.{zero-add}
+use native.Mathlib.Omega.{arith}
+use lib.ListN.{length, take}
+use Rattle.octets.proofs.Writing.{wrote-then, wrote-all, wrote-start}
+use Rattle.objects.specs.Objects.{macObject, commandField}
+use Rattle.session.specs.Session.{commandTaken}
+use Rattle.ciphers.specs.Aes.{aesCiphers}
+use Rattle.protocol.specs.Command.{commandInput, commandMac, commandWrapped}
+use Rattle.results.specs.declared.WrapAnswer.the-variants.{Wrapped}
 
--- src/lib.rt:57:9
-put-objects-requires : tie.Need-put-objects-requires
-put-objects-requires c κs = search needs
-
--- src/lib.rt:58:61
 slice-reshare-prefix-command-mac : tie.Need-slice-reshare-prefix-command-mac
-slice-reshare-prefix-command-mac c = ?
+slice-reshare-prefix-command-mac c = omega (arith, c .before .before .put-objects .ensures .1, c .before .before .put-objects .kept)
 
--- src/lib.rt:58:61
 slice-aggregate-command-mac : tie.Need-slice-aggregate-command-mac
-slice-aggregate-command-mac c = ?
+slice-aggregate-command-mac c = let w = c .before .before .before .put-objects .ensures .0 in w .end ∙ zero-add _ ∙ sym (ap length (wrote-start w))
 
--- src/lib.rt:58:9
-command-mac-requires : tie.Need-command-mac-requires
-command-mac-requires c κs = search needs
-
--- src/lib.rt:59:33
-truncated-requires : tie.Need-truncated-requires
-truncated-requires c κs = search needs
-
--- src/lib.rt:59:9
 put-mac-requires : tie.Need-put-mac-requires
-put-mac-requires c κs = ?
+put-mac-requires c κs = omega (arith, c .before .before .before .before .before .before .put-objects .ensures .1, c .before .before .before .before .before .before .put-objects .kept)
 
--- src/lib.rt:60:9
-command-taken-requires : tie.Need-command-taken-requires
-command-taken-requires c κs = search needs
-
--- src/lib.rt:41:1
-same-length : tie.Need-same-length
-same-length c = search needs
-
--- src/lib.rt:41:1
 returns : tie.Need-returns
-returns c = ?
+unfolding commandWrapped commandMac commandInput aesCiphers commandField
+returns c =
+    let a = c .before .before .before .before .before .before .before .before .before .before .before .before .before .before .before .before .args in
+    let w = c .before .before .before .before .before .before .before .before .before .before .put-objects .ensures .0 in
+    let full = c .before .before .before .before .before .before .command-mac .ensures ∙ ap (commandMac aesCiphers (a .session) (record { ins = a .ins; p1 = a .p1; p2 = a .p2; le = a .le })) (wrote-start w) in
+    let short = c .before .before .before .before .truncated .ensures ∙ ap (take 8) full in
+    let whole = wrote-then (omega arith) w (rw short at (c .before .before .before .put-mac .ensures)) in
+    (λ i. record { answer = Wrapped ((whole .end ∙ zero-add _) i); session = (c .command-taken .ensures ∙ ap (commandTaken (a .session)) full) i }, wrote-all whole)
 
 pub write-command-spec : {M : Type 1} → statement M
 write-command-spec =
     tie.close
     (tie.spec
-    put-objects-requires
+    (λ c κs. search needs)
     slice-reshare-prefix-command-mac
     slice-aggregate-command-mac
-    command-mac-requires
-    truncated-requires
+    (λ c κs. search needs)
+    (λ c κs. search needs)
     put-mac-requires
-    command-taken-requires
-    same-length
+    (λ c κs. search needs)
+    (λ c. search needs)
     returns)
