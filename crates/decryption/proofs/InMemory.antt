@@ -3,11 +3,11 @@
 use mathlib.Core.Path.{_≡_, refl, sym, ap, ap₂, _∙_}
 use mathlib.Core.Option.{Option, none, some}
 use mathlib.Core.List.{[], _++_}
-use Prim.Native.Nat.{ℕ, _<_, _≤_}
+use Prim.Native.Nat.{ℕ, _+_, _-_, _<_, _≤_}
 use native.Mathlib.Nat.{zero-add}
 use native.Mathlib.Omega.{arith}
 use borrow.Author.Tests.{eq-eqb, ne-eqb}
-use lib.ListN.{length, take, drop}
+use lib.ListN.{length, take, drop, length-drop}
 use lib.Seq.{take-take, take-at, length-take-le}
 use Rattle.octets.specs.Bytes.{Bytes}
 use Rattle.octets.specs.Choice.{if_then_else_}
@@ -71,6 +71,23 @@ module _ (suite : Suite) (key counter ct : Bytes) (h : length key ≡ 32) where
       let front : take n text ≡ padded = ap (take n) (e ∙ ap (over copied) same) ∙ take-at padded (drop (length padded) copied) n l2 in
       rw (u ∙ ap unpad front, decrypt-is there, ← e0) (data-at-start text padded n front l2)
 
+-- ---- the ciphertext stands in a field
+
+part-of : (xs : Bytes) (start n : ℕ) → take (start + n - start) (drop start xs) ≡ take n (drop start xs)
+part-of xs start n = let e : start + n - start ≡ n = omega arith in ap (λ (k : ℕ). take k (drop start xs)) e
+
+pub length-part : (xs : Bytes) (start n : ℕ) → start + n ≤ length xs → length (take (start + n - start) (drop start xs)) ≡ n
+length-part xs start n h = ap length (part-of xs start n) ∙ length-take-le n (drop start xs) (omega (arith, length-drop start xs))
+
+pub decrypted-part : (k counter xs : Bytes) (start n : ℕ) → start + n ≤ length xs → (text : Bytes) (r : Unpadded)
+    → Decrypted text (length (take (start + n - start) (drop start xs))) r (decrypt k counter (take (start + n - start) (drop start xs)))
+    → Decrypted text n r (decrypt k counter (take n (drop start xs)))
+decrypted-part k counter xs start n h text r d =
+    record {
+      is = d .is ∙ ap (decrypt k counter) (part-of xs start n);
+      within = omega (arith, d .within, length-part xs start n h);
+    }
+
 -- ---- written out
 
 pub data-within : (text : Bytes) (n m : ℕ) (r : Unpadded) (d : Option Bytes) → Decrypted text n r d → r ≡ Data m → m ≤ n
@@ -87,3 +104,23 @@ unfolding dataIn textOf buffer
 data-out text held out n m r d k h e o =
     let q : d ≡ some (take m text) = sym (k .is) ∙ ap (dataIn text) e in
     rw q (ap Data (sym (length-take-le m text (omega (arith, data-within text n m r d k e)))), o)
+
+-- ---- what a caller learns
+
+no-data : {n : ℕ} {P : Type 0} → BadPadding ≡ Data n → P
+no-data e = let z : _≡_ {A = ℕ} 0 1 = cc in let o : ⊥ = omega arith in absurd o
+
+some-data : {n : ℕ} {P : Type 0} → Data n ≡ BadPadding → P
+some-data e = let z : _≡_ {A = ℕ} 0 1 = cc in let o : ⊥ = omega arith in absurd o
+
+pub found-none : (d : Option Bytes) (held out : Bytes) → unpadded d ≡ BadPadding → out ≡ buffer (λ (x : Bytes). x) held (textOf d)
+    → (d ≡ none) × (out ≡ held)
+unfolding buffer textOf
+found-none (some x) held out e o = some-data e
+found-none none held out e o = (refl, o)
+
+pub found-data : (d : Option Bytes) (held out : Bytes) (n : ℕ) → unpadded d ≡ Data n → out ≡ buffer (λ (x : Bytes). x) held (textOf d)
+    → (x : Bytes) × (d ≡ some x) × (n ≡ length x) × (out ≡ over held x)
+unfolding buffer textOf
+found-data (some x) held out n e o = (x, refl, cc, o)
+found-data none held out n e o = no-data e

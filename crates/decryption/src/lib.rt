@@ -9,8 +9,8 @@ use session::Suite;
 use session_keys::expanded;
 use session_keys::key_size;
 ghost use mathlib.Core.Path.{_≡_};
-ghost use Prim.Native.Nat.{_<_, _≤_, _%_};
-ghost use lib.ListN.{length, take};
+ghost use Prim.Native.Nat.{_+_, _<_, _≤_, _%_};
+ghost use lib.ListN.{length, take, drop};
 ghost use Rattle.octets.specs.Write.{over};
 ghost use Rattle.aes.specs.Aes.{ciph, invCiph};
 ghost use Rattle.cbc.specs.Cbc.{cbcDecrypt};
@@ -64,20 +64,24 @@ fn decrypt_blocks(
     decrypt_some(suite, sk_enc, counter, ciphertext, text)
 }
 
-// The data, written from index 0 of the caller's buffer on, and its length; where the padding is wrong, nothing is written.
+// The data of the ciphertext that stands in a field from index `start` on, written from index 0 of the caller's buffer on, and its length; where
+// the padding is wrong, nothing is written.
 pub fn decrypt_text(
     suite: Suite,
     sk_enc: [u8; 32],
     counter: [u8; 16],
-    ciphertext: &[u8],
+    field: &[u8],
+    start: usize,
+    len: usize,
     out: &mut [u8],
 ) -> Unpadded
-    requires { ⌜ (length (now ciphertext) % 16 ≡ 0) × (length (now ciphertext) ≤ 16384) × (length (now ciphertext) ≤ length (now out)) ⌝ }
-    ensures answer { λ r. ⌜ r ≡ unpadded (decrypt (keyIn suite «sk_enc») counter (now (ciphertext .entry))) ⌝ }
-    ensures output { λ _. ⌜ now (out .exit) ≡ buffer (λ d. d) (now (out .entry)) (textOf (decrypt (keyIn suite «sk_enc») counter (now (ciphertext .entry)))) ⌝ }
+    requires { ⌜ (start + len ≤ length (now field)) × (len % 16 ≡ 0) × (len ≤ 16384) × (len ≤ length (now out)) ⌝ }
+    ensures answer { λ r. ⌜ r ≡ unpadded (decrypt (keyIn suite «sk_enc») counter (take len (drop start (now (field .entry))))) ⌝ }
+    ensures output { λ _. ⌜ now (out .exit) ≡ buffer (λ d. d) (now (out .entry)) (textOf (decrypt (keyIn suite «sk_enc») counter (take len (drop start (now (field .entry)))))) ⌝ }
 {
+    let end = start + len;
     let mut text = [0u8; 16384];
-    let found = decrypt_blocks(suite, sk_enc, counter, ciphertext, &mut text);
+    let found = decrypt_blocks(suite, sk_enc, counter, &field[start..end], &mut text);
     let Unpadded::Data(n) = found else {
         return Unpadded::BadPadding;
     };

@@ -55,8 +55,7 @@ fn open_command(
     }
     let sk_enc = session.sk_enc;
     let counter = command_counter(session.count + 1);
-    let end = start + needed;
-    let text = decrypt_text(suite, sk_enc, counter, &field[start..end], out);
+    let text = decrypt_text(suite, sk_enc, counter, field, start, needed, out);
     let Unpadded::Data(n) = text else {
         return refused_command(session, Refusal::BadPadding);
     };

@@ -54,8 +54,7 @@ fn open_response(
     }
     let sk_enc = session.sk_enc;
     let counter = response_counter(session.count);
-    let end = start + needed;
-    let text = decrypt_text(suite, sk_enc, counter, &field[start..end], out);
+    let text = decrypt_text(suite, sk_enc, counter, field, start, needed, out);
     let Unpadded::Data(n) = text else {
         return refused_response(session, Refusal::BadPadding);
     };
