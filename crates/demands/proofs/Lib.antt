@@ -1,0 +1,5 @@
+pub mod Told
+pub mod RefusalKept
+pub mod Delivered
+pub mod Runs
+pub mod Theorems
