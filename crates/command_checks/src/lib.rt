@@ -6,7 +6,7 @@ use refusal::Refusal;
 use session::Phase;
 use session::Session;
 use session::Side;
-use session::is_turn;
+use turn::is_turn;
 use validity::counts_as_open;
 ghost use mathlib.Core.Path.{_≡_};
 ghost use Rattle.command_checks.specs.Checked.{checked};

@@ -19,13 +19,13 @@ use Rattle.objects.specs.Objects.{object, encryptedData, leObject, statusWord, 
 use Rattle.objects.specs.Lengths.{ciphertextLength, encryptedDataLength, commandLength, responseLength}
 use Rattle.objects.specs.MacInput.{encodedHeader, commandMacInput, responseMacInput}
 use Rattle.validity.specs.Valid.{allZero, keysEnd, keysZero, mcvsZero, keepsPhase, valid, countsAsOpen}
-use Rattle.session.specs.Turn.{isTurn}
+use Rattle.turn.specs.Turn.{isTurn}
 use Rattle.session.specs.Session.{closed, fresh}
 use Rattle.session.specs.declared.Side.{Side}
 use Rattle.session.specs.declared.Side.the-variants.{Host, Card}
 use Rattle.session.specs.declared.Phase.{Phase}
 use Rattle.session.specs.declared.Phase.the-variants.{Ready, Pending, Closed}
-use Rattle.session.specs.declared.Suite.the-variants.{Cs2, Cs7}
+use Rattle.suite.specs.declared.Suite.the-variants.{Cs2, Cs7}
 use Rattle.session.specs.declared.Session.{Session}
 use Rattle.refusal.specs.Refusal.{number, extra}
 use Rattle.ciphers.specs.Ciphers.{Ciphers}

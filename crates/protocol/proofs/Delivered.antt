@@ -27,13 +27,15 @@ use Rattle.field_laws.specs.Written.{suits, Suits, WholeBlocks, ReadsBack}
 use Rattle.field_laws.proofs.CoveredWritten.{right-size}
 use Rattle.field_laws.proofs.ReadBack.{read-command, read-response}
 use Rattle.refusal.specs.declared.Refusal.{Refusal}
-use Rattle.session.specs.Session.{fresh, stored, commandTaken, responseTaken, keyIn}
-use Rattle.session.specs.Turn.{sameSide, samePhase, isTurn}
+use Rattle.session.specs.Session.{fresh}
+use Rattle.stored_keys.specs.StoredKeys.{stored, keyIn}
+use Rattle.transitions.specs.Transitions.{commandTaken, responseTaken}
+use Rattle.turn.specs.Turn.{sameSide, samePhase, isTurn}
 use Rattle.session.specs.declared.Side.{Side}
 use Rattle.session.specs.declared.Side.the-variants.{Host, Card}
 use Rattle.session.specs.declared.Phase.{Phase}
 use Rattle.session.specs.declared.Phase.the-variants.{Ready, Pending, Closed}
-use Rattle.session.specs.declared.SuiteNumber.the-variants.{Known}
+use Rattle.suite.specs.declared.SuiteNumber.the-variants.{Known}
 use Rattle.session.specs.declared.Session.{Session}
 use Rattle.ciphers.specs.Ciphers.{Ciphers, Laws, IsKey}
 use Rattle.ciphers.specs.Aes.{aesCiphers}

@@ -29,8 +29,9 @@ use Rattle.objects.specs.Objects.{object, encryptedData, leObject, statusWord, 
 use Rattle.objects.specs.Lengths.{ciphertextLength, encryptedDataLength, commandLength, responseLength}
 use Rattle.objects.specs.MacInput.{encodedHeader, commandMacInput, responseMacInput}
 use Rattle.validity.specs.Valid.{allZero, keysEnd, keysZero, mcvsZero, keepsPhase, valid, countsAsOpen}
-use Rattle.session.specs.Turn.{isTurn}
-use Rattle.session.specs.Opening.{Keys, keysFit, openSuite, opening}
+use Rattle.turn.specs.Turn.{isTurn}
+use Rattle.stored_keys.specs.StoredKeys.{Keys, keysFit}
+use Rattle.session.specs.Opening.{openSuite, opening}
 use Rattle.session.specs.declared.Side.the-variants.{Host, Card}
 use Rattle.ciphers.specs.Ciphers.{Ciphers, Laws, IsKey, IsCounter}
 use Rattle.ciphers.specs.Aes.{dataIn}

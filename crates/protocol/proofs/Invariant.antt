@@ -27,10 +27,11 @@ use Rattle.field_laws.proofs.Determined.{determined}
 use Rattle.field_laws.proofs.CoveredWritten.{command-data, command-le, response-data, response-status}
 use Rattle.refusal.specs.Refusal.{number}
 use Rattle.refusal.specs.declared.Refusal.{Refusal}
-use Rattle.session.specs.Session.{closed, commandTaken, responseTaken, keyIn}
-use Rattle.session.specs.Turn.{isTurn}
+use Rattle.session.specs.Session.{closed}
+use Rattle.transitions.specs.Transitions.{commandTaken, responseTaken}
+use Rattle.stored_keys.specs.StoredKeys.{keyIn, Keys}
+use Rattle.turn.specs.Turn.{isTurn}
 use Rattle.validity.specs.Valid.{keepsPhase, valid, isOpen, countsAsOpen}
-use Rattle.session.specs.Opening.{Keys}
 use Rattle.session.specs.declared.Side.{Side}
 use Rattle.session.specs.declared.Side.the-variants.{Host, Card}
 use Rattle.session.specs.declared.Phase.{Phase}

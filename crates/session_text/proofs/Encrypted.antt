@@ -19,8 +19,8 @@ use Rattle.aes.specs.Aes.{ciph as scheduleCiph}
 use Rattle.aes.proofs.Block.{length-ciph}
 use Rattle.cbc.specs.Cbc.{cbcEncrypt}
 use Rattle.cbc.proofs.RoundTrip.{length-cbc}
-use Rattle.session.specs.Session.{keyIn}
-use Rattle.session.specs.declared.Suite.{Suite}
+use Rattle.stored_keys.specs.StoredKeys.{keyIn}
+use Rattle.suite.specs.declared.Suite.{Suite}
 use Rattle.ciphers.specs.Aes.{ciph, encrypt}
 use Rattle.session_keys.specs.SessionKeys.{keySize}
 use Rattle.session_keys.proofs.SessionCiphers.{same-cipher}
