@@ -3,10 +3,10 @@
 mod made;
 mod row;
 
-use fields::Need;
-use fields::Second;
-use fields::Wanted;
 use fields::read_field;
+use wanted::Need;
+use wanted::Second;
+use wanted::Wanted;
 
 fn main() {
     row::head();

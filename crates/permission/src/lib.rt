@@ -1,5 +1,5 @@
 // Which commands and statuses are permitted (document 01, "Objects, encryption and MAC").
-use fields::Need;
+use wanted::Need;
 ghost use mathlib.Core.Path.{_≡_};
 ghost use Prim.Native.Nat.{_<_};
 ghost use lib.Dec.{ltb};

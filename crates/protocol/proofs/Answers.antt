@@ -12,8 +12,9 @@ use Rattle.octets.specs.Choice.{if_then_else_}
 use Rattle.compare.specs.Same.{same}
 use Rattle.padding.specs.Padding.{padding, pad, paddedLength, marked, markBefore, unpad}
 use Rattle.tlv.specs.Length.{lengthField, readLength, isShortest}
-use Rattle.fields.specs.Wanted.{rank, allowed, rightSize, rightSecond, rightValue}
-use Rattle.fields.specs.Object.{require_else_⨾_ as need_else_⨾_, withLength, readObject}
+use Rattle.wanted.specs.Wanted.{rank, allowed}
+use Rattle.object_values.specs.Values.{rightSize, rightSecond, rightValue}
+use Rattle.data_object.specs.Object.{require_else_⨾_ as need_else_⨾_, withLength, readObject}
 use Rattle.fields.specs.Field.{noted as notedObject, ended, onObject, walk, readField}
 use Rattle.objects.specs.Objects.{object, encryptedData, leObject, statusWord, macObject, commandObjects, responseObjects, commandField, responseField}
 use Rattle.objects.specs.Lengths.{ciphertextLength, encryptedDataLength, commandLength, responseLength}

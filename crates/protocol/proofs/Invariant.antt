@@ -16,7 +16,7 @@ use Rattle.octets.proofs.Tests.{both}
 use Rattle.octets.specs.Bytes.{Bytes, IsBytes, zeros}
 use Rattle.octets.specs.Choice.{if_then_else_}
 use Rattle.fields.specs.Field.{readField, ciphertextOf, coveredOf, macOf}
-use Rattle.fields.specs.declared.Second.the-variants.{Le, Status}
+use Rattle.wanted.specs.declared.Second.the-variants.{Le, Status}
 use Rattle.fields.specs.declared.Objects.{Objects}
 use Rattle.fields.specs.declared.FieldRead.the-variants.{Read}
 use Rattle.objects.specs.Objects.{commandObjects, responseObjects, commandField, responseField}
