@@ -1,5 +1,5 @@
 // The tests of wrapping and unwrapping a command, in document 01's order.
-use objects::command_length;
+use field_lengths::command_length;
 use permission::command_permitted;
 use permission::ins_permitted;
 use refusal::Refusal;

@@ -17,7 +17,7 @@ use Rattle.fields.specs.declared.Objects.{Objects}
 use Rattle.fields.specs.declared.FieldRead.{FieldRead}
 use Rattle.fields.specs.declared.FieldRead.the-variants.{Read, Malformed as BadField, Missing}
 use Rattle.objects.specs.Objects.{commandObjects, responseObjects, commandField, responseField}
-use Rattle.objects.specs.Lengths.{commandLength, responseLength}
+use Rattle.field_lengths.specs.Lengths.{commandLength, responseLength}
 use Rattle.refusal.specs.declared.Refusal.{Refusal}
 use Rattle.refusal.specs.declared.Refusal.the-variants.{SessionClosed, OutOfTurn, NotPermitted, TooLong, CommandLimit, BufferTooSmall, Malformed, MissingObject, BadMac, BadPadding, Unprotected}
 use Rattle.transitions.specs.Transitions.{commandTaken, responseTaken}

@@ -20,9 +20,10 @@ use Rattle.fields.specs.Field.{readField, ciphertextOf, coveredOf, macOf}
 use Rattle.fields.specs.declared.Objects.{Objects}
 use Rattle.fields.specs.declared.FieldRead.the-variants.{Read}
 use Rattle.objects.specs.Objects.{commandObjects, responseObjects, commandField, responseField}
-use Rattle.objects.specs.MacInput.{responseMacInput}
-use Rattle.objects.specs.Lengths.{ciphertextLength, encryptedDataLength, commandLength, responseLength}
-use Rattle.objects.proofs.FieldLengths.{data-most, length-commandField, length-responseField}
+use Rattle.mac_input.specs.MacInput.{responseMacInput}
+use Rattle.field_lengths.specs.Lengths.{ciphertextLength, encryptedDataLength, commandLength, responseLength}
+use Rattle.field_lengths.proofs.LengthBounds.{data-most}
+use Rattle.objects.proofs.FieldLengths.{length-commandField, length-responseField}
 use Rattle.field_laws.specs.Written.{suits, Suits, WholeBlocks, ReadsBack}
 use Rattle.field_laws.proofs.CoveredWritten.{right-size}
 use Rattle.field_laws.proofs.ReadBack.{read-command, read-response}

@@ -27,8 +27,8 @@ use Rattle.object_values.specs.Values.{rightSize, rightSecond, rightValue}
 use Rattle.data_object.specs.Object.{require_else_⨾_ as need_else_⨾_, withLength, readObject}
 use Rattle.fields.specs.Field.{noted as notedObject, ended, onObject, walk, readField}
 use Rattle.objects.specs.Objects.{object, encryptedData, leObject, statusWord, macObject, commandObjects, responseObjects, commandField, responseField}
-use Rattle.objects.specs.Lengths.{ciphertextLength, encryptedDataLength, commandLength, responseLength}
-use Rattle.objects.specs.MacInput.{encodedHeader, commandMacInput, responseMacInput}
+use Rattle.field_lengths.specs.Lengths.{ciphertextLength, encryptedDataLength, commandLength, responseLength}
+use Rattle.mac_input.specs.MacInput.{encodedHeader, commandMacInput, responseMacInput}
 use Rattle.validity.specs.Valid.{allZero, keysEnd, keysZero, mcvsZero, keepsPhase, valid, countsAsOpen}
 use Rattle.turn.specs.Turn.{isTurn}
 use Rattle.stored_keys.specs.StoredKeys.{Keys, keysFit}

@@ -20,7 +20,7 @@ use Rattle.wanted.specs.declared.Second.the-variants.{Le, Status}
 use Rattle.fields.specs.declared.Objects.{Objects}
 use Rattle.fields.specs.declared.FieldRead.the-variants.{Read}
 use Rattle.objects.specs.Objects.{commandObjects, responseObjects, commandField, responseField}
-use Rattle.objects.specs.MacInput.{encodedHeader, commandMacInput, responseMacInput}
+use Rattle.mac_input.specs.MacInput.{encodedHeader, commandMacInput, responseMacInput}
 use Rattle.field_laws.specs.Covered.{dataIn, secondIn, sw1In, sw2In}
 use Rattle.field_laws.specs.Written.{WholeBlocks}
 use Rattle.field_laws.proofs.Determined.{determined}

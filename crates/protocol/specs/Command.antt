@@ -8,8 +8,8 @@ use Rattle.compare.specs.Same.{same}
 use Rattle.fields.specs.Field.{readField, ciphertextOf, coveredOf, macOf}
 use Rattle.fields.specs.declared.Objects.{Objects}
 use Rattle.objects.specs.Objects.{commandObjects, commandField}
-use Rattle.objects.specs.Lengths.{commandLength}
-use Rattle.objects.specs.MacInput.{commandMacInput}
+use Rattle.field_lengths.specs.Lengths.{commandLength}
+use Rattle.mac_input.specs.MacInput.{commandMacInput}
 use Rattle.refusal.specs.declared.Refusal.the-variants.{SessionClosed, OutOfTurn, NotPermitted, TooLong, CommandLimit, BufferTooSmall, BadMac}
 use Rattle.transitions.specs.Transitions.{commandTaken}
 use Rattle.stored_keys.specs.StoredKeys.{keyIn}

@@ -5,7 +5,7 @@ use mathlib.Core.Bool.{true}
 use Prim.Native.Nat.{ℕ, _+_, _≤_, _<_}
 use lib.ListN.{length}
 use Rattle.octets.specs.Bytes.{Bytes, IsBytes}
-use Rattle.objects.specs.Lengths.{ciphertextLength, commandLength, responseLength}
+use Rattle.field_lengths.specs.Lengths.{ciphertextLength, commandLength, responseLength}
 use Rattle.stored_keys.specs.StoredKeys.{keyIn, KeysOfBytes, Keys}
 use Rattle.validity.specs.Valid.{countsAsOpen}
 use Rattle.session.specs.Opening.{opening}

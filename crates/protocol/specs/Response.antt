@@ -8,8 +8,8 @@ use Rattle.compare.specs.Same.{same}
 use Rattle.fields.specs.Field.{readField, ciphertextOf, coveredOf, macOf}
 use Rattle.fields.specs.declared.Objects.{Objects}
 use Rattle.objects.specs.Objects.{responseObjects, responseField}
-use Rattle.objects.specs.Lengths.{responseLength}
-use Rattle.objects.specs.MacInput.{responseMacInput}
+use Rattle.field_lengths.specs.Lengths.{responseLength}
+use Rattle.mac_input.specs.MacInput.{responseMacInput}
 use Rattle.refusal.specs.declared.Refusal.the-variants.{SessionClosed, OutOfTurn, NotPermitted, TooLong, BufferTooSmall, BadMac, Unprotected}
 use Rattle.transitions.specs.Transitions.{responseTaken}
 use Rattle.stored_keys.specs.StoredKeys.{keyIn}

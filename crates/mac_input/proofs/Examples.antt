@@ -4,10 +4,10 @@ use mathlib.Core.Path.{_≡_, refl}
 use mathlib.Core.Bool.{true, false}
 use mathlib.Core.List.{[], _∷_, _++_}
 use lib.ListN.{replicate}
-use Rattle.octets.specs.Bytes.{Bytes, zeros}
+use Rattle.octets.specs.Bytes.{zeros}
 use Rattle.tlv.specs.Length.{lengthField}
 use Rattle.objects.specs.Objects.{object, encryptedData, leObject, statusWord, commandObjects, responseObjects}
-use Rattle.objects.specs.MacInput.{encodedHeader, commandMacInput, responseMacInput}
+use Rattle.mac_input.specs.MacInput.{encodedHeader, commandMacInput, responseMacInput}
 
 record Computed : Type 0 where
   -- VERIFY with one block of encrypted data; GET DATA with Le; a status alone; each after a chaining value of 07

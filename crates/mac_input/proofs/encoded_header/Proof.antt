@@ -1,9 +1,9 @@
 -- `encoded_header` meets its contract: byte by byte.
 -- Assumes nothing.
-use Rattle.objects.proofs.encoded_header.Statement.{statement}
-use Rattle.objects.proofs.encoded_header.Tie as tie
+use Rattle.mac_input.proofs.encoded_header.Statement.{statement}
+use Rattle.mac_input.proofs.encoded_header.Tie as tie
 use mathlib.Core.Path.{refl}
-use Rattle.objects.specs.MacInput.{encodedHeader}
+use Rattle.mac_input.specs.MacInput.{encodedHeader}
 
 returns : tie.Need-returns
 unfolding encodedHeader

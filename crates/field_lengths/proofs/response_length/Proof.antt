@@ -1,12 +1,12 @@
 -- `response_length` meets its contract: the sum of its objects' lengths.
 -- Assumes nothing.
 use borrow.Author.Needs.{needs}
-use Rattle.objects.proofs.response_length.Statement.{statement}
-use Rattle.objects.proofs.response_length.Tie as tie
+use Rattle.field_lengths.proofs.response_length.Statement.{statement}
+use Rattle.field_lengths.proofs.response_length.Tie as tie
 use native.Mathlib.Omega.{arith}
 use mathlib.Core.Path.{ap, _∙_}
-use Rattle.objects.proofs.FieldLengths.{data-most, ciphertext-most}
-use Rattle.objects.specs.Lengths.{responseLength, encryptedDataLength}
+use Rattle.field_lengths.proofs.LengthBounds.{data-most, ciphertext-most}
+use Rattle.field_lengths.specs.Lengths.{responseLength, encryptedDataLength}
 
 encrypted-data-length-requires : tie.Need-encrypted-data-length-requires
 encrypted-data-length-requires c κs = omega (arith, c .ciphertext-length .ensures, ciphertext-most (c .before .args .p) (c .before .pre))

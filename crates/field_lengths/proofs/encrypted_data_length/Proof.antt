@@ -1,13 +1,13 @@
 -- `encrypted_data_length` meets its contract: nothing, or tag, length field, indicator byte and data.
 -- Assumes nothing.
 use borrow.Author.Needs.{needs}
-use Rattle.objects.proofs.encrypted_data_length.Statement.{statement}
-use Rattle.objects.proofs.encrypted_data_length.Tie as tie
+use Rattle.field_lengths.proofs.encrypted_data_length.Statement.{statement}
+use Rattle.field_lengths.proofs.encrypted_data_length.Tie as tie
 use borrow.Author.Tests.{eq-eqb, ne-eqb}
 use Prim.Native.Nat.{_+_}
 use native.Mathlib.Omega.{arith}
 use Rattle.tlv.proofs.LengthForms.{length-field-most}
-use Rattle.objects.specs.Lengths.{encryptedDataLength}
+use Rattle.field_lengths.specs.Lengths.{encryptedDataLength}
 
 returns : tie.Need-returns
 unfolding encryptedDataLength

@@ -1,10 +1,10 @@
 -- `ciphertext_length` meets its contract: no data, or the padded length.
 -- Assumes nothing.
 use borrow.Author.Needs.{needs}
-use Rattle.objects.proofs.ciphertext_length.Statement.{statement}
-use Rattle.objects.proofs.ciphertext_length.Tie as tie
+use Rattle.field_lengths.proofs.ciphertext_length.Statement.{statement}
+use Rattle.field_lengths.proofs.ciphertext_length.Tie as tie
 use borrow.Author.Tests.{eq-eqb, ne-eqb}
-use Rattle.objects.specs.Lengths.{ciphertextLength}
+use Rattle.field_lengths.specs.Lengths.{ciphertextLength}
 
 returns : tie.Need-returns
 unfolding ciphertextLength
