@@ -13,7 +13,7 @@ use Rattle.octets.specs.Bytes.{Bytes, IsBytes, zeros}
 use Rattle.octets.specs.Choice.{if_then_else_}
 use Rattle.padding.specs.Padding.{pad, paddedLength, unpad}
 use Rattle.padding.proofs.Lengths.{length-pad}
-use Rattle.objects.specs.Lengths.{ciphertextLength}
+use Rattle.field_lengths.specs.Lengths.{ciphertextLength}
 use Rattle.key_expansion.specs.KeyExpansion.{schedule}
 use Rattle.key_schedule.specs.declared.KeySize.the-variants.{Aes128, Aes256}
 use Rattle.aes.specs.Aes.{aes, invAes}

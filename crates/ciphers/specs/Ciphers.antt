@@ -6,7 +6,7 @@ use mathlib.Core.Option.{Option, some}
 use Prim.Native.Nat.{ℕ}
 use lib.ListN.{length}
 use Rattle.octets.specs.Bytes.{Bytes, IsBytes}
-use Rattle.objects.specs.Lengths.{ciphertextLength}
+use Rattle.field_lengths.specs.Lengths.{ciphertextLength}
 
 pub record Ciphers : Type 0 where
   -- the full MAC, 16 bytes, of a message under a key

@@ -1,5 +1,5 @@
 // The tests of wrapping and unwrapping a command, in document 01's order.
-use objects::command_length;
+use field_lengths::command_length;
 use permission::command_permitted;
 use permission::ins_permitted;
 use refusal::Refusal;
@@ -7,7 +7,7 @@ use results::Checked;
 use session::Phase;
 use session::Session;
 use session::Side;
-use session::is_turn;
+use turn::is_turn;
 use validity::counts_as_open;
 ghost use mathlib.Core.Path.{_≡_};
 ghost use Rattle.results.specs.Results.{checked};

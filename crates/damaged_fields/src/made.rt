@@ -1,10 +1,10 @@
 // Fields made by hand. C stands for encrypted data, M for the MAC.
 use crate::row;
-use fields::Need;
-use fields::Second;
-use fields::Wanted;
 use fields::read_field;
 use octets::put_bytes;
+use wanted::Need;
+use wanted::Second;
+use wanted::Wanted;
 ghost use Prim.Native.Nat.{_≤_};
 ghost use lib.ListN.{length};
 

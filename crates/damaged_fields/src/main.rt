@@ -3,10 +3,10 @@
 mod made;
 mod row;
 
-use fields::Need;
-use fields::Second;
-use fields::Wanted;
 use fields::read_field;
+use wanted::Need;
+use wanted::Second;
+use wanted::Wanted;
 
 fn main() {
     row::head();
@@ -58,7 +58,7 @@ fn response_field() {
 
 fn put_command(out: &mut [u8]) {
     let ciphertext = [b'C'; 16];
-    if out.len() < objects::command_length(5, true) {
+    if out.len() < field_lengths::command_length(5, true) {
         return;
     }
     let next = objects::put_command_objects(out, &ciphertext, true);
@@ -67,7 +67,7 @@ fn put_command(out: &mut [u8]) {
 
 fn put_response(out: &mut [u8]) {
     let ciphertext = [b'C'; 128];
-    if out.len() < objects::response_length(112) {
+    if out.len() < field_lengths::response_length(112) {
         return;
     }
     let next = objects::put_response_objects(out, &ciphertext, 0x90, 0x00);

@@ -1,9 +1,9 @@
 // A row of the table: the field, what was done to it, and the reader's answer. Columns begin at 0, 9, 33, 37, 50 and 55; an accepted
 // field's objects at 50.
-use fields::Breach;
+use data_object::Breach;
+use data_object::Rule;
 use fields::FieldRead;
 use fields::Objects;
-use fields::Rule;
 
 pub fn head() {
     print::text(

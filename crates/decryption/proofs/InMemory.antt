@@ -2,7 +2,6 @@
 -- Assumes nothing.
 use mathlib.Core.Path.{_≡_, refl, sym, ap, ap₂, _∙_}
 use mathlib.Core.Option.{Option, none, some}
-use mathlib.Core.List.{[], _++_}
 use Prim.Native.Nat.{ℕ, _+_, _-_, _<_, _≤_}
 use native.Mathlib.Nat.{zero-add}
 use native.Mathlib.Omega.{arith}
@@ -10,7 +9,6 @@ use borrow.Author.Tests.{eq-eqb, ne-eqb}
 use lib.ListN.{length, take, drop, length-drop}
 use lib.Seq.{take-take, take-at, length-take-le}
 use Rattle.octets.specs.Bytes.{Bytes}
-use Rattle.octets.specs.Choice.{if_then_else_}
 use Rattle.octets.specs.Write.{over, Wrote}
 use Rattle.octets.proofs.Writing.{wrote-start}
 use Rattle.padding.specs.Padding.{unpad}
@@ -20,8 +18,8 @@ use Rattle.padding.proofs.Unpadding.{data-short}
 use Rattle.key_expansion.specs.KeyExpansion.{schedule}
 use Rattle.aes.specs.Aes.{ciph as scheduleCiph, invCiph as scheduleInvCiph}
 use Rattle.cbc.specs.Cbc.{cbcDecrypt}
-use Rattle.session.specs.Session.{keyIn}
-use Rattle.session.specs.declared.Suite.{Suite}
+use Rattle.stored_keys.specs.StoredKeys.{keyIn}
+use Rattle.suite.specs.declared.Suite.{Suite}
 use Rattle.ciphers.specs.Aes.{dataIn, decryptBlocks, decrypt}
 use Rattle.session_keys.specs.SessionKeys.{keySize}
 use Rattle.session_keys.proofs.SessionCiphers.{same-cipher, same-inv-cipher}

@@ -4,14 +4,13 @@ use mathlib.Core.Path.{_≡_, sym, ap, ap₂, subst, _∙_}
 use Prim.Native.Nat.{ℕ}
 use lib.ListN.{length}
 use Rattle.octets.specs.Bytes.{Bytes}
-use Rattle.session.specs.Session.{keyIn}
+use Rattle.stored_keys.specs.StoredKeys.{keyIn}
 use Rattle.session.specs.Opening.{opening}
-use Rattle.session.specs.declared.Suite.{Suite}
+use Rattle.suite.specs.declared.Suite.{Suite}
 use Rattle.session.specs.declared.Side.the-variants.{Host, Card}
 use Rattle.session.specs.declared.Phase.the-variants.{Ready, Pending}
 use Rattle.session.specs.declared.Opened.{Opened}
 use Rattle.session.specs.declared.Session.{Session}
-use Rattle.ciphers.specs.Aes.{aesCiphers}
 use Rattle.ciphers.specs.Ciphers.{IsKey}
 use Rattle.protocol.specs.Message.{Response}
 use Rattle.protocol.specs.Answer.{gave, Out}
@@ -19,8 +18,8 @@ use Rattle.protocol.specs.Command.{CommandGiven}
 use Rattle.protocol.specs.Transcript.{does}
 use Rattle.protocol.specs.HonestDelivery.{InStep, Keyed}
 use Rattle.protocol.proofs.Theorems.{demand2-commands, demand2-responses, demand2-openings}
-use Rattle.demands.specs.Calls.{hostKeys, WrapsCommand, UnwrapsCommand, WrapsResponse, UnwrapsResponse, wrapsCommand, unwrapsCommand, wrapsResponse, unwrapsResponse, session, command, response, held, next, answer}
-use Rattle.demands.specs.HonestDelivery.{CommandCarried, CommandDelivered, DeliversCommands, ResponseCarried, ResponseDelivered, DeliversResponses, OpensInStep}
+use Rattle.demands.specs.Calls.{hostKeys, wrapsCommand, unwrapsCommand, wrapsResponse, unwrapsResponse, session, command, response, held, next, answer}
+use Rattle.demands.specs.HonestDelivery.{CommandCarried, DeliversCommands, ResponseCarried, DeliversResponses, OpensInStep}
 use Rattle.demands.proofs.Told.{outcome, told}
 
 pub delivers-commands : DeliversCommands

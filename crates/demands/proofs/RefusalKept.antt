@@ -9,13 +9,14 @@ use Rattle.octets.specs.Choice.{if_then_else_}
 use Rattle.refusal.specs.Refusal.{number}
 use Rattle.refusal.specs.declared.Refusal.{Refusal}
 use Rattle.refusal.specs.declared.Refusal.the-variants.{UnknownSuite, BadKeyLength}
-use Rattle.session.specs.Suites.{keyLength, suiteOf}
-use Rattle.session.specs.Session.{fresh, noSession, stored}
-use Rattle.session.specs.Opening.{Keys, keysFit, notOpened, openSuite, opening}
+use Rattle.suite.specs.Suites.{keyLength, suiteOf}
+use Rattle.session.specs.Session.{fresh, noSession}
+use Rattle.stored_keys.specs.StoredKeys.{stored, Keys, keysFit}
+use Rattle.session.specs.Opening.{notOpened, openSuite, opening}
 use Rattle.session.specs.declared.Side.{Side}
 use Rattle.session.specs.declared.Side.the-variants.{Host, Card}
-use Rattle.session.specs.declared.SuiteNumber.{SuiteNumber}
-use Rattle.session.specs.declared.SuiteNumber.the-variants.{Known, Unknown}
+use Rattle.suite.specs.declared.SuiteNumber.{SuiteNumber}
+use Rattle.suite.specs.declared.SuiteNumber.the-variants.{Known, Unknown}
 use Rattle.session.specs.declared.Opening.the-variants.{Opened as Done, Refused}
 use Rattle.session.specs.declared.Opened.{Opened}
 use Rattle.session.specs.declared.Session.{Session}

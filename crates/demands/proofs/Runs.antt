@@ -5,18 +5,18 @@ use mathlib.Core.Logic.{_⊎_, inl, inr}
 use mathlib.Core.List.{List, [], _∷_, map}
 use Prim.Native.Nat.{ℕ, zero, suc}
 use lib.ListN.{take}
-use Rattle.session.specs.Opening.{Keys, opening}
+use Rattle.stored_keys.specs.StoredKeys.{Keys}
+use Rattle.session.specs.Opening.{opening}
 use Rattle.session.specs.declared.Side.{Side}
 use Rattle.session.specs.declared.Side.the-variants.{Host, Card}
-use Rattle.session.specs.declared.Opening.the-variants.{Opened as Done}
 use Rattle.session.specs.declared.Opened.{Opened}
 use Rattle.session.specs.declared.Session.{Session}
 use Rattle.ciphers.specs.Aes.{aesCiphers}
-use Rattle.protocol.specs.Answer.{Answer, Out}
+use Rattle.protocol.specs.Answer.{Out}
 use Rattle.protocol.specs.Transcript.{Call, sideOf, Gives, does, State, sessionAt, moved, entered, step, run, start}
 use Rattle.protocol.specs.Agreement.{Agrees, BreaksIn, Excepted as ExceptedRun, CallBytes, AllBytes}
 use Rattle.protocol.proofs.Theorems.{demand3}
-use Rattle.demands.specs.Calls.{OpensHost, OpensCard, hostKeys, cardKeys, Event, wrapsCommand, unwrapsCommand, wrapsResponse, unwrapsResponse, closes, end, session, call, next, answer}
+use Rattle.demands.specs.Calls.{hostKeys, Event, wrapsCommand, unwrapsCommand, wrapsResponse, unwrapsResponse, closes, end, session, call, next, answer}
 use Rattle.demands.specs.Agreement.{after, ran, Trace, Excepted, Agreement}
 use Rattle.demands.proofs.Told.{outcome, told}
 

@@ -11,7 +11,7 @@ use mathlib.Core.Logic.{_⊎_}
 use mathlib.Core.List.{List, [], _∷_}
 use Prim.Native.Nat.{ℕ}
 use lib.ListN.{take}
-use Rattle.session.specs.Opening.{Keys}
+use Rattle.stored_keys.specs.StoredKeys.{Keys}
 use Rattle.session.specs.declared.Opening.the-variants.{Opened as Done}
 use Rattle.ciphers.specs.Aes.{aesCiphers}
 use Rattle.protocol.specs.Transcript.{State, sessionAt, moved, entered, start}

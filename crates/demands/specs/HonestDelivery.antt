@@ -6,7 +6,7 @@ use Prim.Native.Nat.{_≤_, _<_}
 use lib.ListN.{length}
 use denote.Ref.{now}
 use Rattle.octets.specs.Bytes.{Bytes}
-use Rattle.objects.specs.Lengths.{ciphertextLength, commandLength, responseLength}
+use Rattle.field_lengths.specs.Lengths.{ciphertextLength, commandLength, responseLength}
 use Rattle.session.specs.declared.Opening.the-variants.{Opened as Done}
 use Rattle.session.specs.declared.Side.the-variants.{Host, Card}
 use Rattle.session.specs.declared.Phase.the-variants.{Ready, Pending}

@@ -3,28 +3,28 @@
 use mathlib.Core.Path.{_≡_, refl, sym, ap, ap₂, _∙_}
 use mathlib.Core.Bool.{Bool, true, false}
 use mathlib.Core.List.{[], _++_}
-use Prim.Native.Nat.{ℕ, _*_, _/_, _+_, _<_, _≤_}
+use Prim.Native.Nat.{ℕ, _+_, _<_}
 use native.Mathlib.Nat.{zero-add}
 use native.Mathlib.Omega.{arith}
 use borrow.Author.Tests.{eq-eqb, ne-eqb, eqb-true, eqb-false}
 use lib.Dec.{eqb}
-use lib.ListN.{length, take, drop, length-append}
+use lib.ListN.{length, take, drop}
 use lib.Seq.{drop-append-seam}
 use Rattle.octets.specs.Bytes.{Bytes}
 use Rattle.octets.specs.Choice.{if_then_else_}
-use Rattle.octets.specs.Write.{over, put, Wrote}
+use Rattle.octets.specs.Write.{over, Wrote}
 use Rattle.octets.proofs.Writing.{wrote-all, wrote-start, put-start}
 use Rattle.padding.specs.Padding.{pad, paddedLength}
 use Rattle.padding.proofs.Lengths.{length-pad}
-use Rattle.objects.specs.Lengths.{ciphertextLength}
+use Rattle.field_lengths.specs.Lengths.{ciphertextLength}
 use Rattle.key_expansion.specs.KeyExpansion.{schedule}
 use Rattle.aes.specs.Aes.{ciph as scheduleCiph}
 use Rattle.aes.proofs.Block.{length-ciph}
 use Rattle.cbc.specs.Cbc.{cbcEncrypt}
 use Rattle.cbc.proofs.RoundTrip.{length-cbc}
-use Rattle.session.specs.Session.{keyIn}
-use Rattle.session.specs.declared.Suite.{Suite}
-use Rattle.ciphers.specs.Aes.{ciph, encrypt}
+use Rattle.stored_keys.specs.StoredKeys.{keyIn}
+use Rattle.suite.specs.declared.Suite.{Suite}
+use Rattle.ciphers.specs.Aes.{encrypt}
 use Rattle.session_keys.specs.SessionKeys.{keySize}
 use Rattle.session_keys.proofs.SessionCiphers.{same-cipher}
 

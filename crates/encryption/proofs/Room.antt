@@ -9,8 +9,8 @@ use lib.ListN.{length}
 use Rattle.octets.specs.Bytes.{Bytes}
 use Rattle.octets.specs.Choice.{if_then_else_}
 use Rattle.padding.specs.Padding.{paddedLength}
-use Rattle.objects.specs.Objects.{leObject, encryptedData, commandObjects, responseObjects}
-use Rattle.objects.specs.Lengths.{ciphertextLength, encryptedDataLength, commandLength, responseLength}
+use Rattle.objects.specs.Objects.{encryptedData, commandObjects, responseObjects}
+use Rattle.field_lengths.specs.Lengths.{ciphertextLength, encryptedDataLength, commandLength, responseLength}
 use Rattle.objects.proofs.FieldLengths.{length-encryptedData, length-leObject, length-commandObjects, length-responseObjects}
 
 -- less than m blocks of data take at most m

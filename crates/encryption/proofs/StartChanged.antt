@@ -1,15 +1,14 @@
 -- What a buffer holds after its first n bytes, whole blocks, were changed in place.
 -- Assumes nothing.
-use mathlib.Core.Path.{_≡_, refl, sym, ap, _∙_}
+use mathlib.Core.Path.{_≡_, sym, ap, _∙_}
 use mathlib.Core.List.{_++_}
 use Prim.Native.Nat.{ℕ, _%_, _≤_}
-use native.Mathlib.Omega.{arith}
 use borrow.Author.Tests.{eq-eqb}
 use lib.ListN.{length, take, drop}
 use lib.Seq.{length-take-le}
 use Rattle.octets.specs.Bytes.{Bytes}
 use Rattle.octets.specs.Write.{over}
-use Rattle.cbc.specs.Whole.{whole, ifWhole}
+use Rattle.cbc.specs.Whole.{ifWhole}
 
 module _ (f : Bytes → Bytes) (xs ys : Bytes) (n : ℕ) (m : n % 16 ≡ 0) (h : n ≤ length xs) (e : ys ≡ ifWhole f (take n xs)) (l : length ys ≡ n) where
   changed : ys ≡ f (take n xs)

@@ -3,9 +3,9 @@ use aes::encrypt_block;
 use key_schedule::KeySize;
 use octets::put_bytes;
 use padding::put_padding;
-use session::Suite;
 use session_keys::expanded;
 use session_keys::key_size;
+use suite::Suite;
 ghost use mathlib.Core.Path.{_≡_};
 ghost use Prim.Native.Nat.{_<_, _≤_, _%_};
 ghost use lib.ListN.{length, take};
@@ -13,8 +13,8 @@ ghost use Rattle.octets.specs.Write.{over, Wrote};
 ghost use Rattle.padding.specs.Padding.{pad, paddedLength};
 ghost use Rattle.aes.specs.Aes.{ciph};
 ghost use Rattle.cbc.specs.Cbc.{cbcEncrypt};
-ghost use Rattle.objects.specs.Lengths.{ciphertextLength};
-ghost use Rattle.session.specs.Session.{keyIn};
+ghost use Rattle.field_lengths.specs.Lengths.{ciphertextLength};
+ghost use Rattle.stored_keys.specs.StoredKeys.{keyIn};
 ghost use Rattle.ciphers.specs.Aes.{encrypt};
 
 // CBC encryption of the first n bytes.

@@ -12,12 +12,13 @@ use lib.Seq.{length-take-le}
 use Rattle.octets.specs.Bytes.{Bytes}
 use Rattle.octets.specs.Choice.{if_then_else_}
 use Rattle.octets.proofs.Tests.{both}
-use Rattle.fields.specs.Wanted.{may, lacks, tagOf, sizeOf, needOf, rank, allowed, rightSize}
+use Rattle.wanted.specs.Wanted.{may, lacks, tagOf, needOf, rank, allowed}
+use Rattle.object_values.specs.Values.{sizeOf, rightSize}
 use Rattle.fields.specs.Field.{none, readField, ciphertextOf}
-use Rattle.fields.specs.declared.Need.{Need}
-use Rattle.fields.specs.declared.Need.the-variants.{Must, May, MustNot}
-use Rattle.fields.specs.declared.Wanted.{Wanted}
-use Rattle.fields.specs.declared.DataObject.{DataObject}
+use Rattle.wanted.specs.declared.Need.{Need}
+use Rattle.wanted.specs.declared.Need.the-variants.{Must, May, MustNot}
+use Rattle.wanted.specs.declared.Wanted.{Wanted}
+use Rattle.data_object.specs.declared.DataObject.{DataObject}
 use Rattle.fields.specs.declared.Objects.{Objects}
 use Rattle.fields.specs.declared.FieldRead.the-variants.{Read}
 use Rattle.field_laws.specs.Written.{suits, WholeBlocks, Conforms}

@@ -10,11 +10,11 @@ use lib.Dec.{eqb, leb}
 use lib.ListN.{length}
 use Rattle.octets.specs.Bytes.{Bytes, zeros}
 use Rattle.objects.specs.Objects.{commandObjects, responseObjects, commandField, responseField}
-use Rattle.fields.specs.Wanted.{rightSize}
-use Rattle.fields.specs.declared.Need.the-variants.{May}
-use Rattle.fields.specs.declared.Second.{Second}
-use Rattle.fields.specs.declared.Second.the-variants.{Le, Status}
-use Rattle.fields.specs.declared.Wanted.{Wanted}
+use Rattle.object_values.specs.Values.{rightSize}
+use Rattle.wanted.specs.declared.Need.the-variants.{May}
+use Rattle.wanted.specs.declared.Second.{Second}
+use Rattle.wanted.specs.declared.Second.the-variants.{Le, Status}
+use Rattle.wanted.specs.declared.Wanted.{Wanted}
 use Rattle.field_laws.specs.Covered.{dataIn, secondIn, sw1In, sw2In}
 use Rattle.field_laws.specs.Written.{Suits, ReadsBack, WholeBlocks}
 use Rattle.field_laws.proofs.Determined.{determined}

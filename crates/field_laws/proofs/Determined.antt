@@ -16,15 +16,16 @@ use Rattle.octets.specs.Choice.{if_then_else_}
 use Rattle.tlv.specs.Length.{readLength}
 use Rattle.tlv.specs.declared.LengthRead.the-variants.{Length}
 use Rattle.tlv.proofs.LengthForms.{read-within, read-prefix}
-use Rattle.fields.specs.Wanted.{lacks, tagOf, sizeOf, needOf, rightSize, rightSecond, rightValue}
+use Rattle.wanted.specs.Wanted.{lacks, tagOf, needOf}
+use Rattle.object_values.specs.Values.{sizeOf, rightSize, rightSecond, rightValue}
 use Rattle.fields.specs.Field.{none, noted, readField, ciphertextOf, coveredOf}
-use Rattle.fields.specs.declared.Second.{Second}
-use Rattle.fields.specs.declared.Second.the-variants.{Le, Status}
-use Rattle.fields.specs.declared.Wanted.{Wanted}
-use Rattle.fields.specs.declared.DataObject.{DataObject}
+use Rattle.wanted.specs.declared.Second.{Second}
+use Rattle.wanted.specs.declared.Second.the-variants.{Le, Status}
+use Rattle.wanted.specs.declared.Wanted.{Wanted}
+use Rattle.data_object.specs.declared.DataObject.{DataObject}
 use Rattle.fields.specs.declared.Objects.{Objects}
 use Rattle.fields.specs.declared.FieldRead.the-variants.{Read}
-use Rattle.fields.proofs.Inversion.{Stands, some-byte}
+use Rattle.data_object.proofs.Inversion.{Stands, some-byte}
 use Rattle.field_laws.specs.Covered.{dataBehind, endBehind, dataIn, dataEnd, secondIn, sw1In, sw2In, Determined}
 use Rattle.field_laws.proofs.Noted.{not-data, not-mac, noted-data, noted-mac, noted-second}
 use Rattle.field_laws.proofs.Acceptance.{Part, Optional, Tail, Accepted, accepted, all-there}

@@ -5,11 +5,11 @@ use mathlib.Core.Bool.{true}
 use Prim.Native.Nat.{ℕ, _+_, _-_}
 use native.Mathlib.Omega.{arith}
 use borrow.Author.Tests.{eq-eqb, ne-eqb}
-use Rattle.fields.specs.Wanted.{tagOf, rank}
+use Rattle.wanted.specs.Wanted.{tagOf, rank}
 use Rattle.fields.specs.Field.{noted}
-use Rattle.fields.specs.declared.Second.{Second}
-use Rattle.fields.specs.declared.Second.the-variants.{Le, Status}
-use Rattle.fields.specs.declared.DataObject.{DataObject}
+use Rattle.wanted.specs.declared.Second.{Second}
+use Rattle.wanted.specs.declared.Second.the-variants.{Le, Status}
+use Rattle.data_object.specs.declared.DataObject.{DataObject}
 use Rattle.fields.specs.declared.Objects.{Objects}
 
 pub not-data : (second : Second) → tagOf second ≡ 0x87 → ⊥

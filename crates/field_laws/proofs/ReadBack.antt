@@ -18,19 +18,20 @@ use Rattle.tlv.specs.Length.{lengthField, readLength, isShortest}
 use Rattle.tlv.specs.declared.LengthRead.the-variants.{Length}
 use Rattle.tlv.proofs.LengthForms.{read-written, written-shortest}
 use Rattle.objects.specs.Objects.{object, encryptedData, leObject, statusWord, macObject, commandObjects, responseObjects, commandField, responseField}
-use Rattle.fields.specs.Wanted.{may, lacks, tagOf, sizeOf, needOf, rank, allowed, rightSize, rightSecond, rightValue}
-use Rattle.fields.specs.Object.{readObject}
+use Rattle.wanted.specs.Wanted.{may, lacks, tagOf, needOf, rank, allowed}
+use Rattle.object_values.specs.Values.{sizeOf, rightSize, rightSecond, rightValue}
+use Rattle.data_object.specs.Object.{readObject}
 use Rattle.fields.specs.Field.{none, noted, ended, walk, readField, ciphertextOf, coveredOf, macOf}
-use Rattle.fields.specs.declared.Need.{Need}
-use Rattle.fields.specs.declared.Need.the-variants.{Must, May, MustNot}
-use Rattle.fields.specs.declared.Second.{Second}
-use Rattle.fields.specs.declared.Second.the-variants.{Le, Status}
-use Rattle.fields.specs.declared.Wanted.{Wanted}
+use Rattle.wanted.specs.declared.Need.{Need}
+use Rattle.wanted.specs.declared.Need.the-variants.{Must, May, MustNot}
+use Rattle.wanted.specs.declared.Second.{Second}
+use Rattle.wanted.specs.declared.Second.the-variants.{Le, Status}
+use Rattle.wanted.specs.declared.Wanted.{Wanted}
 use Rattle.fields.specs.declared.Objects.{Objects}
-use Rattle.fields.specs.declared.DataObject.{DataObject}
-use Rattle.fields.specs.declared.ObjectRead.the-variants.{Object}
+use Rattle.data_object.specs.declared.DataObject.{DataObject}
+use Rattle.data_object.specs.declared.ObjectRead.the-variants.{Object}
 use Rattle.fields.specs.declared.FieldRead.the-variants.{Read}
-use Rattle.fields.proofs.ObjectCases.{whole-object}
+use Rattle.data_object.proofs.ObjectCases.{whole-object}
 use Rattle.fields.proofs.Walk.{walk-end, walk-object}
 use Rattle.objects.proofs.FieldLengths.{mac-bytes, no-data}
 use Rattle.field_laws.specs.Written.{suits, Suits, ReadsBack}

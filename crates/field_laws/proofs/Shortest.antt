@@ -18,13 +18,14 @@ use Rattle.octets.specs.Choice.{if_then_else_}
 use Rattle.tlv.specs.Length.{lengthField}
 use Rattle.tlv.proofs.LengthForms.{read-shortest}
 use Rattle.objects.specs.Objects.{object, encryptedData, leObject, statusWord, commandObjects, responseObjects}
-use Rattle.fields.specs.Wanted.{tagOf, sizeOf, rightSize, rightSecond, rightValue}
+use Rattle.wanted.specs.Wanted.{tagOf}
+use Rattle.object_values.specs.Values.{sizeOf, rightSize, rightSecond, rightValue}
 use Rattle.fields.specs.Field.{none, readField, ciphertextOf, coveredOf}
-use Rattle.fields.specs.declared.Need.{Need}
-use Rattle.fields.specs.declared.Second.{Second}
-use Rattle.fields.specs.declared.Second.the-variants.{Le, Status}
-use Rattle.fields.specs.declared.Wanted.{Wanted}
-use Rattle.fields.specs.declared.DataObject.{DataObject}
+use Rattle.wanted.specs.declared.Need.{Need}
+use Rattle.wanted.specs.declared.Second.{Second}
+use Rattle.wanted.specs.declared.Second.the-variants.{Le, Status}
+use Rattle.wanted.specs.declared.Wanted.{Wanted}
+use Rattle.data_object.specs.declared.DataObject.{DataObject}
 use Rattle.fields.specs.declared.Objects.{Objects}
 use Rattle.fields.specs.declared.FieldRead.the-variants.{Read}
 use Rattle.field_laws.proofs.Acceptance.{Part, Optional, Tail, Accepted}

@@ -11,8 +11,8 @@ use Rattle.tlv.specs.Length.{readLength}
 use Rattle.tlv.specs.declared.LengthRead.{LengthRead}
 use Rattle.tlv.specs.declared.LengthRead.the-variants.{Length, BadForm}
 use Rattle.fields.specs.Field.{ciphertextOf, coveredOf}
-use Rattle.fields.specs.declared.Second.the-variants.{Status}
-use Rattle.fields.specs.declared.Wanted.{Wanted}
+use Rattle.wanted.specs.declared.Second.the-variants.{Status}
+use Rattle.wanted.specs.declared.Wanted.{Wanted}
 use Rattle.fields.specs.declared.Objects.{Objects}
 
 -- the encrypted data of an '87' whose length was read: behind tag, length field and indicator byte

@@ -5,11 +5,12 @@ use Prim.Native.Nat.{ℕ, _+_, _%_, _<_, _≤_}
 use lib.Dec.{ltb}
 use lib.ListN.{length}
 use Rattle.octets.specs.Bytes.{Bytes}
-use Rattle.fields.specs.Wanted.{needOf, rightSize}
+use Rattle.wanted.specs.Wanted.{needOf}
+use Rattle.object_values.specs.Values.{rightSize}
 use Rattle.fields.specs.Field.{readField, ciphertextOf, coveredOf, macOf}
-use Rattle.fields.specs.declared.Need.{Need}
-use Rattle.fields.specs.declared.Need.the-variants.{Must, May, MustNot}
-use Rattle.fields.specs.declared.Wanted.{Wanted}
+use Rattle.wanted.specs.declared.Need.{Need}
+use Rattle.wanted.specs.declared.Need.the-variants.{Must, May, MustNot}
+use Rattle.wanted.specs.declared.Wanted.{Wanted}
 use Rattle.fields.specs.declared.Objects.{Objects}
 use Rattle.fields.specs.declared.FieldRead.the-variants.{Read}
 

@@ -1,18 +1,18 @@
 -- Fields that the checker reads itself: the first breach decides, and 8 waits for the end.
 -- Assumes nothing.
 use mathlib.Core.Path.{_≡_, refl}
-use mathlib.Core.Bool.{true, false}
+use mathlib.Core.Bool.{true}
 use mathlib.Core.List.{[], _∷_, _++_}
-use Prim.Native.Nat.{ℕ}
 use Rattle.octets.specs.Bytes.{Bytes, zeros}
 use Rattle.tlv.specs.Length.{readLength, lengthField, isShortest}
-use Rattle.fields.specs.Wanted.{rank, allowed, rightSize, rightSecond, rightValue}
-use Rattle.fields.specs.Object.{breach, require_else_⨾_, withLength, readObject}
+use Rattle.wanted.specs.Wanted.{rank, allowed}
+use Rattle.object_values.specs.Values.{rightSize, rightSecond, rightValue}
+use Rattle.data_object.specs.Object.{breach, require_else_⨾_, withLength, readObject}
 use Rattle.fields.specs.Field.{noted, ended, onObject, walk, readField}
-use Rattle.fields.specs.declared.Need.the-variants.{Must, May, MustNot}
-use Rattle.fields.specs.declared.Second.the-variants.{Le, Status}
-use Rattle.fields.specs.declared.Wanted.{Wanted}
-use Rattle.fields.specs.declared.Rule.the-variants.{Tag, LengthForm, LengthSize, BytesLeft, Value}
+use Rattle.wanted.specs.declared.Need.the-variants.{Must, May}
+use Rattle.wanted.specs.declared.Second.the-variants.{Le, Status}
+use Rattle.wanted.specs.declared.Wanted.{Wanted}
+use Rattle.data_object.specs.declared.Rule.the-variants.{Tag, Value}
 use Rattle.fields.specs.declared.FieldRead.the-variants.{Read, Malformed, Missing}
 
 -- GET DATA ('CB') must have data and Le

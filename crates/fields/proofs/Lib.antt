@@ -1,4 +1,2 @@
 pub mod Examples
-pub mod ObjectCases
-pub mod Inversion
 pub mod Walk

@@ -6,13 +6,13 @@ use native.Mathlib.Omega.{arith}
 use borrow.Author.Tests.{lt-ltb, le-ltb}
 use lib.ListN.{length}
 use Rattle.octets.specs.Bytes.{Bytes}
-use Rattle.fields.specs.Wanted.{rank}
-use Rattle.fields.specs.Object.{readObject}
+use Rattle.wanted.specs.Wanted.{rank}
+use Rattle.data_object.specs.Object.{readObject}
 use Rattle.fields.specs.Field.{noted, ended, onObject, walk}
-use Rattle.fields.specs.declared.Wanted.{Wanted}
-use Rattle.fields.specs.declared.Breach.{Breach}
-use Rattle.fields.specs.declared.DataObject.{DataObject}
-use Rattle.fields.specs.declared.ObjectRead.the-variants.{Object, Malformed}
+use Rattle.wanted.specs.declared.Wanted.{Wanted}
+use Rattle.data_object.specs.declared.Breach.{Breach}
+use Rattle.data_object.specs.declared.DataObject.{DataObject}
+use Rattle.data_object.specs.declared.ObjectRead.the-variants.{Object, Malformed}
 use Rattle.fields.specs.declared.Objects.{Objects}
 use Rattle.fields.specs.declared.FieldRead.the-variants.{Malformed as BadField}
 

@@ -5,13 +5,13 @@ use lib.Dec.{eqb, ltb}
 use lib.ListN.{length, take, drop}
 use Rattle.octets.specs.Bytes.{Bytes}
 use Rattle.octets.specs.Choice.{if_then_else_}
-use Rattle.fields.specs.Wanted.{lacks, tagOf, needOf, rank}
-use Rattle.fields.specs.Object.{breach, readObject}
-use Rattle.fields.specs.declared.Wanted.{Wanted}
-use Rattle.fields.specs.declared.Rule.the-variants.{Tag}
-use Rattle.fields.specs.declared.DataObject.{DataObject}
-use Rattle.fields.specs.declared.ObjectRead.{ObjectRead}
-use Rattle.fields.specs.declared.ObjectRead.the-variants.{Object, Malformed}
+use Rattle.wanted.specs.Wanted.{lacks, tagOf, needOf, rank}
+use Rattle.data_object.specs.Object.{breach, readObject}
+use Rattle.wanted.specs.declared.Wanted.{Wanted}
+use Rattle.data_object.specs.declared.Rule.the-variants.{Tag}
+use Rattle.data_object.specs.declared.DataObject.{DataObject}
+use Rattle.data_object.specs.declared.ObjectRead.{ObjectRead}
+use Rattle.data_object.specs.declared.ObjectRead.the-variants.{Object, Malformed}
 use Rattle.fields.specs.declared.Objects.{Objects}
 use Rattle.fields.specs.declared.FieldRead.{FieldRead}
 use Rattle.fields.specs.declared.FieldRead.the-variants.{Read, Malformed as BadField, Missing}

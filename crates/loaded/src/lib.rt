@@ -8,15 +8,15 @@ use saved::SIZE;
 use session::Phase;
 use session::Session;
 use session::Side;
-use session::Suite;
-use session::SuiteNumber;
-use session::suite_of;
+use suite::Suite;
+use suite::SuiteNumber;
+use suite::suite_of;
 use validity::valid;
 ghost use mathlib.Core.Path.{_≡_};
 ghost use Prim.Native.Nat.{_+_, _*_, _≤_};
 ghost use lib.ListN.{length, getD};
 ghost use Rattle.octets.specs.Bytes.{IsBytes};
-ghost use Rattle.session.specs.Suites.{suiteOf};
+ghost use Rattle.suite.specs.Suites.{suiteOf};
 ghost use Rattle.saved.specs.Saved.{headed, sideFrom, phaseFrom, countFrom, part, sessionFrom, unreadable, accepted, decodeSuite, decode};
 
 fn headed(bytes: &[u8]) -> bool

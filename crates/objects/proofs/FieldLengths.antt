@@ -2,7 +2,7 @@
 use mathlib.Core.Path.{_≡_, refl, ap, ap₂, sym, _∙_}
 use mathlib.Core.Bool.{Bool, true, false}
 use mathlib.Core.List.{[], _∷_, _++_, append-assoc}
-use Prim.Native.Nat.{ℕ, _+_, _*_, _/_, _<_, _≤_}
+use Prim.Native.Nat.{ℕ, _+_}
 use native.Mathlib.Omega.{arith}
 use borrow.Author.Tests.{eq-eqb, ne-eqb}
 use lib.Dec.{eqb}
@@ -10,11 +10,9 @@ use lib.ListN.{length, length-append}
 use native.Mathlib.Numerals.{add-one}
 use Rattle.octets.specs.Bytes.{Bytes}
 use Rattle.octets.specs.Choice.{if_then_else_}
-use Rattle.padding.specs.Padding.{paddedLength}
 use Rattle.tlv.specs.Length.{lengthField}
-use Rattle.tlv.proofs.LengthForms.{length-field-most}
 use Rattle.objects.specs.Objects.{object, encryptedData, leObject, statusWord, macObject, commandObjects, responseObjects, commandField, responseField}
-use Rattle.objects.specs.Lengths.{ciphertextLength, encryptedDataLength, commandLength, responseLength}
+use Rattle.field_lengths.specs.Lengths.{ciphertextLength, encryptedDataLength, commandLength, responseLength}
 
 -- ---- each object's bytes
 
@@ -61,28 +59,12 @@ pub length-leObject : (le : Bool) → length (leObject le) ≡ (if le then 3 els
 length-leObject true = ap length le-present
 length-leObject false = ap length le-absent
 
-pub data-most : (e : ℕ) → encryptedDataLength e ≤ e + 5
-unfolding encryptedDataLength
-data-most e = go (eqb e 0)
-  where
-    go : (t : Bool) → (if t then 0 else 2 + length (lengthField (e + 1)) + e) ≤ e + 5
-    go true = omega arith
-    go false = omega (arith, length-field-most (e + 1))
-
 pub header-length : (n : ℕ) → length (0x87 ∷ [] ++ lengthField n ++ 0x01 ∷ []) ≡ 2 + length (lengthField n)
 header-length n = omega (arith, length-append (lengthField n) (0x01 ∷ []))
 
 pub some-length : (c : Bytes) → (length c ≡ 0 → ⊥) → length (encryptedData c) ≡ 2 + length (lengthField (length c + 1)) + length c
 unfolding encryptedDataLength
 some-length c e = length-encryptedData c ∙ rw (ne-eqb (length c) 0 e)
-
-pub ciphertext-most : (p : ℕ) → p < 65536 → ciphertextLength p ≤ 65536
-unfolding ciphertextLength paddedLength
-ciphertext-most p h = go (eqb p 0)
-  where
-    go : (t : Bool) → (if t then 0 else 16 * (p / 16 + 1)) ≤ 65536
-    go true = omega arith
-    go false = omega arith
 
 module _ (c : Bytes) where
   pub length-commandObjects : (le : Bool) → length (commandObjects c le) ≡ length (encryptedData c) + length (leObject le)

@@ -1,2 +1,1 @@
 pub mod FieldLengths
-pub mod Examples

@@ -1,3 +1,1 @@
 pub mod Objects
-pub mod Lengths
-pub mod MacInput

@@ -1,60 +1,14 @@
 // The data objects of a secure messaging field, written in the side's order (SP 800-73-4 Part 2, 4.2). Room is checked once, by
-// the caller and before the first byte, with command_length or response_length.
+// the caller and before the first byte, with command_length or response_length of field_lengths.
 use octets::put_byte;
 use octets::put_bytes;
-use padding::padded_length;
-use tlv::length_size;
 use tlv::put_length;
-ghost use mathlib.Core.Path.{_≡_};
 ghost use mathlib.Core.List.{[], _∷_, _++_};
 ghost use Prim.Native.Nat.{_+_, _<_, _≤_};
 ghost use lib.ListN.{length};
 ghost use Rattle.octets.specs.Write.{Wrote};
 ghost use Rattle.tlv.specs.Length.{lengthField};
-ghost use Rattle.objects.specs.Objects.{encryptedData, leObject, statusWord, macObject, commandObjects, responseObjects};
-ghost use Rattle.objects.specs.Lengths.{ciphertextLength, encryptedDataLength, commandLength, responseLength};
-ghost use Rattle.objects.specs.MacInput.{encodedHeader};
-
-// The length of the encrypted form of p bytes of data.
-pub fn ciphertext_length(p: usize) -> usize
-    requires { ⌜ p < 65536 ⌝ }
-    ensures { λ r. ⌜ r ≡ ciphertextLength p ⌝ }
-{
-    if p == 0 {
-        return 0;
-    }
-    padded_length(p)
-}
-
-fn encrypted_data_length(e: usize) -> usize
-    requires { ⌜ e < 131072 ⌝ }
-    ensures { λ r. ⌜ r ≡ encryptedDataLength e ⌝ }
-{
-    if e == 0 {
-        return 0;
-    }
-    2 + length_size(e + 1) + e
-}
-
-// The length of a command's field with p bytes of data.
-pub fn command_length(p: usize, le: bool) -> usize
-    requires { ⌜ p < 65536 ⌝ }
-    ensures { λ r. ⌜ r ≡ commandLength p le ⌝ }
-{
-    let n = encrypted_data_length(ciphertext_length(p));
-    if le {
-        return n + 3 + 10;
-    }
-    n + 10
-}
-
-// The length of a response's field with p bytes of data.
-pub fn response_length(p: usize) -> usize
-    requires { ⌜ p < 65536 ⌝ }
-    ensures { λ r. ⌜ r ≡ responseLength p ⌝ }
-{
-    encrypted_data_length(ciphertext_length(p)) + 4 + 10
-}
+ghost use Rattle.objects.specs.Objects.{encryptedData, leObject, macObject, commandObjects, responseObjects};
 
 // Tag, length and padding-content indicator byte of e bytes of encrypted data.
 fn put_data_header(out: &mut [u8], at: usize, e: usize) -> usize
@@ -112,11 +66,4 @@ pub fn put_mac(out: &mut [u8], at: usize, mac: [u8; 8]) -> usize
 {
     let n = put_bytes(out, at, &[0x8E, 0x08]);
     put_bytes(out, n, &mac)
-}
-
-// The second block of a command's MAC input.
-pub fn encoded_header(ins: u8, p1: u8, p2: u8) -> [u8; 16]
-    ensures { λ block. ⌜ block ≡ encodedHeader ins p1 p2 ⌝ }
-{
-    [0x0C, ins, p1, p2, 0x80, 0, 0, 0, 0, 0, 0, 0, 0, 0, 0, 0]
 }

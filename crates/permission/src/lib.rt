@@ -1,10 +1,9 @@
 // Which commands and statuses are permitted (document 01, "Objects, encryption and MAC").
-use fields::Need;
-use fields::Second;
-use fields::Wanted;
+use wanted::Need;
+use wanted::Second;
+use wanted::Wanted;
 ghost use mathlib.Core.Path.{_≡_};
 ghost use Prim.Native.Nat.{_<_};
-ghost use lib.Dec.{ltb};
 ghost use Rattle.field_laws.specs.Written.{suits};
 ghost use Rattle.protocol.specs.Permission.{insPermitted, leNeed, dataNeed, commandPermitted, statusPermitted, commandWanted, responseWanted};
 

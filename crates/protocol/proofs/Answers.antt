@@ -12,20 +12,21 @@ use Rattle.octets.specs.Choice.{if_then_else_}
 use Rattle.compare.specs.Same.{same}
 use Rattle.padding.specs.Padding.{padding, pad, paddedLength, marked, markBefore, unpad}
 use Rattle.tlv.specs.Length.{lengthField, readLength, isShortest}
-use Rattle.fields.specs.Wanted.{rank, allowed, rightSize, rightSecond, rightValue}
-use Rattle.fields.specs.Object.{require_else_⨾_ as need_else_⨾_, withLength, readObject}
+use Rattle.wanted.specs.Wanted.{rank, allowed}
+use Rattle.object_values.specs.Values.{rightSize, rightSecond, rightValue}
+use Rattle.data_object.specs.Object.{require_else_⨾_ as need_else_⨾_, withLength, readObject}
 use Rattle.fields.specs.Field.{noted as notedObject, ended, onObject, walk, readField}
 use Rattle.objects.specs.Objects.{object, encryptedData, leObject, statusWord, macObject, commandObjects, responseObjects, commandField, responseField}
-use Rattle.objects.specs.Lengths.{ciphertextLength, encryptedDataLength, commandLength, responseLength}
-use Rattle.objects.specs.MacInput.{encodedHeader, commandMacInput, responseMacInput}
+use Rattle.field_lengths.specs.Lengths.{ciphertextLength, encryptedDataLength, commandLength, responseLength}
+use Rattle.mac_input.specs.MacInput.{encodedHeader, commandMacInput, responseMacInput}
 use Rattle.validity.specs.Valid.{allZero, keysEnd, keysZero, mcvsZero, keepsPhase, valid, countsAsOpen}
-use Rattle.session.specs.Turn.{isTurn}
+use Rattle.turn.specs.Turn.{isTurn}
 use Rattle.session.specs.Session.{closed, fresh}
 use Rattle.session.specs.declared.Side.{Side}
 use Rattle.session.specs.declared.Side.the-variants.{Host, Card}
 use Rattle.session.specs.declared.Phase.{Phase}
 use Rattle.session.specs.declared.Phase.the-variants.{Ready, Pending, Closed}
-use Rattle.session.specs.declared.Suite.the-variants.{Cs2, Cs7}
+use Rattle.suite.specs.declared.Suite.the-variants.{Cs2, Cs7}
 use Rattle.session.specs.declared.Session.{Session}
 use Rattle.refusal.specs.Refusal.{number, extra}
 use Rattle.ciphers.specs.Ciphers.{Ciphers}

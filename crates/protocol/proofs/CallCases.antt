@@ -17,11 +17,12 @@ use Rattle.fields.specs.declared.Objects.{Objects}
 use Rattle.fields.specs.declared.FieldRead.{FieldRead}
 use Rattle.fields.specs.declared.FieldRead.the-variants.{Read, Malformed as BadField, Missing}
 use Rattle.objects.specs.Objects.{commandObjects, responseObjects, commandField, responseField}
-use Rattle.objects.specs.Lengths.{commandLength, responseLength}
+use Rattle.field_lengths.specs.Lengths.{commandLength, responseLength}
 use Rattle.refusal.specs.declared.Refusal.{Refusal}
 use Rattle.refusal.specs.declared.Refusal.the-variants.{SessionClosed, OutOfTurn, NotPermitted, TooLong, CommandLimit, BufferTooSmall, Malformed, MissingObject, BadMac, BadPadding, Unprotected}
-use Rattle.session.specs.Session.{commandTaken, responseTaken, keyIn}
-use Rattle.session.specs.Turn.{sameSide, samePhase, isTurn}
+use Rattle.transitions.specs.Transitions.{commandTaken, responseTaken}
+use Rattle.stored_keys.specs.StoredKeys.{keyIn}
+use Rattle.turn.specs.Turn.{sameSide, samePhase, isTurn}
 use Rattle.validity.specs.Valid.{countsAsOpen}
 use Rattle.session.specs.declared.Side.{Side}
 use Rattle.session.specs.declared.Side.the-variants.{Host, Card}

@@ -13,10 +13,10 @@ use lib.Seq.{append-snoc, take-at}
 use Rattle.octets.specs.Bytes.{Bytes, IsBytes, zeros}
 use Rattle.octets.specs.Choice.{if_then_else_}
 use Rattle.padding.specs.Padding.{paddedLength}
-use Rattle.objects.specs.Lengths.{ciphertextLength}
-use Rattle.objects.specs.MacInput.{encodedHeader, commandMacInput, responseMacInput}
+use Rattle.field_lengths.specs.Lengths.{ciphertextLength}
+use Rattle.mac_input.specs.MacInput.{encodedHeader, commandMacInput, responseMacInput}
 use Rattle.field_laws.specs.Written.{WholeBlocks}
-use Rattle.session.specs.Opening.{Keys}
+use Rattle.stored_keys.specs.StoredKeys.{Keys}
 use Rattle.ciphers.specs.Ciphers.{Ciphers, Laws, IsKey, IsCounter}
 use Rattle.protocol.specs.Message.{CommandHeader, StatusWord, Message}
 use Rattle.counter.specs.Counter.{bigEndian, commandCounter, responseCounter}

@@ -20,20 +20,23 @@ use Rattle.fields.specs.Field.{readField, ciphertextOf, coveredOf, macOf}
 use Rattle.fields.specs.declared.Objects.{Objects}
 use Rattle.fields.specs.declared.FieldRead.the-variants.{Read}
 use Rattle.objects.specs.Objects.{commandObjects, responseObjects, commandField, responseField}
-use Rattle.objects.specs.MacInput.{responseMacInput}
-use Rattle.objects.specs.Lengths.{ciphertextLength, encryptedDataLength, commandLength, responseLength}
-use Rattle.objects.proofs.FieldLengths.{data-most, length-commandField, length-responseField}
+use Rattle.mac_input.specs.MacInput.{responseMacInput}
+use Rattle.field_lengths.specs.Lengths.{ciphertextLength, encryptedDataLength, commandLength, responseLength}
+use Rattle.field_lengths.proofs.LengthBounds.{data-most}
+use Rattle.objects.proofs.FieldLengths.{length-commandField, length-responseField}
 use Rattle.field_laws.specs.Written.{suits, Suits, WholeBlocks, ReadsBack}
 use Rattle.field_laws.proofs.CoveredWritten.{right-size}
 use Rattle.field_laws.proofs.ReadBack.{read-command, read-response}
 use Rattle.refusal.specs.declared.Refusal.{Refusal}
-use Rattle.session.specs.Session.{fresh, stored, commandTaken, responseTaken, keyIn}
-use Rattle.session.specs.Turn.{sameSide, samePhase, isTurn}
+use Rattle.session.specs.Session.{fresh}
+use Rattle.stored_keys.specs.StoredKeys.{stored, keyIn}
+use Rattle.transitions.specs.Transitions.{commandTaken, responseTaken}
+use Rattle.turn.specs.Turn.{sameSide, samePhase, isTurn}
 use Rattle.session.specs.declared.Side.{Side}
 use Rattle.session.specs.declared.Side.the-variants.{Host, Card}
 use Rattle.session.specs.declared.Phase.{Phase}
 use Rattle.session.specs.declared.Phase.the-variants.{Ready, Pending, Closed}
-use Rattle.session.specs.declared.SuiteNumber.the-variants.{Known}
+use Rattle.suite.specs.declared.SuiteNumber.the-variants.{Known}
 use Rattle.session.specs.declared.Session.{Session}
 use Rattle.ciphers.specs.Ciphers.{Ciphers, Laws, IsKey}
 use Rattle.ciphers.specs.Aes.{aesCiphers}

@@ -16,21 +16,22 @@ use Rattle.octets.proofs.Tests.{both}
 use Rattle.octets.specs.Bytes.{Bytes, IsBytes, zeros}
 use Rattle.octets.specs.Choice.{if_then_else_}
 use Rattle.fields.specs.Field.{readField, ciphertextOf, coveredOf, macOf}
-use Rattle.fields.specs.declared.Second.the-variants.{Le, Status}
+use Rattle.wanted.specs.declared.Second.the-variants.{Le, Status}
 use Rattle.fields.specs.declared.Objects.{Objects}
 use Rattle.fields.specs.declared.FieldRead.the-variants.{Read}
 use Rattle.objects.specs.Objects.{commandObjects, responseObjects, commandField, responseField}
-use Rattle.objects.specs.MacInput.{encodedHeader, commandMacInput, responseMacInput}
+use Rattle.mac_input.specs.MacInput.{encodedHeader, commandMacInput, responseMacInput}
 use Rattle.field_laws.specs.Covered.{dataIn, secondIn, sw1In, sw2In}
 use Rattle.field_laws.specs.Written.{WholeBlocks}
 use Rattle.field_laws.proofs.Determined.{determined}
 use Rattle.field_laws.proofs.CoveredWritten.{command-data, command-le, response-data, response-status}
 use Rattle.refusal.specs.Refusal.{number}
 use Rattle.refusal.specs.declared.Refusal.{Refusal}
-use Rattle.session.specs.Session.{closed, commandTaken, responseTaken, keyIn}
-use Rattle.session.specs.Turn.{isTurn}
+use Rattle.session.specs.Session.{closed}
+use Rattle.transitions.specs.Transitions.{commandTaken, responseTaken}
+use Rattle.stored_keys.specs.StoredKeys.{keyIn, Keys}
+use Rattle.turn.specs.Turn.{isTurn}
 use Rattle.validity.specs.Valid.{keepsPhase, valid, isOpen, countsAsOpen}
-use Rattle.session.specs.Opening.{Keys}
 use Rattle.session.specs.declared.Side.{Side}
 use Rattle.session.specs.declared.Side.the-variants.{Host, Card}
 use Rattle.session.specs.declared.Phase.{Phase}

@@ -19,7 +19,8 @@ use Rattle.fields.specs.declared.Objects.{Objects}
 use Rattle.refusal.specs.Refusal.{number}
 use Rattle.refusal.specs.declared.Refusal.{Refusal}
 use Rattle.refusal.specs.declared.Refusal.the-variants.{Malformed, MissingObject, BadPadding}
-use Rattle.session.specs.Session.{closed, keyIn}
+use Rattle.session.specs.Session.{closed}
+use Rattle.stored_keys.specs.StoredKeys.{keyIn}
 use Rattle.session.specs.declared.Session.{Session}
 use Rattle.ciphers.specs.Ciphers.{Ciphers}
 use Rattle.protocol.specs.Permission.{commandWanted, responseWanted}

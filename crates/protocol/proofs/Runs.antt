@@ -14,19 +14,19 @@ use Rattle.octets.proofs.Tests.{both}
 use Rattle.octets.specs.Bytes.{Bytes, zeros}
 use Rattle.octets.specs.Choice.{if_then_else_}
 use Rattle.refusal.specs.declared.Refusal.{Refusal}
-use Rattle.session.specs.Suites.{keyLength, suiteOf}
-use Rattle.session.specs.Session.{fresh, closed, stored, keyIn}
+use Rattle.suite.specs.Suites.{keyLength, suiteOf}
+use Rattle.session.specs.Session.{fresh, closed}
+use Rattle.stored_keys.specs.StoredKeys.{stored, keyIn, KeysOfBytes, Keys, keysFit}
 use Rattle.validity.specs.Valid.{countsAsOpen}
-use Rattle.session.specs.Arrays.{KeysOfBytes}
-use Rattle.session.specs.Opening.{Keys, keysFit, openSuite, opening}
-use Rattle.session.proofs.StoredKeys.{fitting}
+use Rattle.session.specs.Opening.{openSuite, opening}
+use Rattle.stored_keys.proofs.StoredKeys.{fitting}
 use Rattle.session.specs.declared.Side.{Side}
 use Rattle.session.specs.declared.Side.the-variants.{Host, Card}
 use Rattle.session.specs.declared.Phase.the-variants.{Ready, Pending}
-use Rattle.session.specs.declared.Suite.{Suite}
-use Rattle.session.specs.declared.Suite.the-variants.{Cs2, Cs7}
-use Rattle.session.specs.declared.SuiteNumber.{SuiteNumber}
-use Rattle.session.specs.declared.SuiteNumber.the-variants.{Known, Unknown}
+use Rattle.suite.specs.declared.Suite.{Suite}
+use Rattle.suite.specs.declared.Suite.the-variants.{Cs2, Cs7}
+use Rattle.suite.specs.declared.SuiteNumber.{SuiteNumber}
+use Rattle.suite.specs.declared.SuiteNumber.the-variants.{Known, Unknown}
 use Rattle.session.specs.declared.Opening.the-variants.{Opened as Done, Refused}
 use Rattle.session.specs.declared.Opened.{Opened}
 use Rattle.session.specs.declared.Session.{Session}

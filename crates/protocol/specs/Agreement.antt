@@ -8,8 +8,8 @@ use Prim.Native.Nat.{ℕ, _+_, _≤_, _<_}
 use lib.ListN.{length, take, getD}
 use Rattle.octets.specs.Bytes.{Bytes, IsBytes, zeros}
 use Rattle.fields.specs.Field.{macOf}
-use Rattle.session.specs.Arrays.{KeysOfBytes}
-use Rattle.session.specs.Opening.{Keys, opening}
+use Rattle.stored_keys.specs.StoredKeys.{KeysOfBytes, Keys}
+use Rattle.session.specs.Opening.{opening}
 use Rattle.session.specs.declared.Side.the-variants.{Host, Card}
 use Rattle.session.specs.declared.Opening.the-variants.{Opened as Done}
 use Rattle.session.specs.declared.Session.{Session}

@@ -5,11 +5,10 @@ use mathlib.Core.Bool.{true}
 use Prim.Native.Nat.{ℕ, _+_, _≤_, _<_}
 use lib.ListN.{length}
 use Rattle.octets.specs.Bytes.{Bytes, IsBytes}
-use Rattle.objects.specs.Lengths.{ciphertextLength, commandLength, responseLength}
-use Rattle.session.specs.Session.{keyIn}
+use Rattle.field_lengths.specs.Lengths.{ciphertextLength, commandLength, responseLength}
+use Rattle.stored_keys.specs.StoredKeys.{keyIn, KeysOfBytes, Keys}
 use Rattle.validity.specs.Valid.{countsAsOpen}
-use Rattle.session.specs.Arrays.{KeysOfBytes}
-use Rattle.session.specs.Opening.{Keys, opening}
+use Rattle.session.specs.Opening.{opening}
 use Rattle.session.specs.declared.Opening.the-variants.{Opened as Done}
 use Rattle.session.specs.declared.Side.the-variants.{Host, Card}
 use Rattle.session.specs.declared.Phase.{Phase}

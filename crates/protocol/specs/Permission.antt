@@ -4,10 +4,10 @@ use mathlib.Core.Bool.{Bool, _&&_, _||_, not}
 use Prim.Native.Nat.{ℕ}
 use lib.Dec.{eqb, ltb}
 use Rattle.octets.specs.Choice.{if_then_else_}
-use Rattle.fields.specs.declared.Need.{Need}
-use Rattle.fields.specs.declared.Need.the-variants.{Must, May, MustNot}
-use Rattle.fields.specs.declared.Second.the-variants.{Le, Status}
-use Rattle.fields.specs.declared.Wanted.{Wanted}
+use Rattle.wanted.specs.declared.Need.{Need}
+use Rattle.wanted.specs.declared.Need.the-variants.{Must, May, MustNot}
+use Rattle.wanted.specs.declared.Second.the-variants.{Le, Status}
+use Rattle.wanted.specs.declared.Wanted.{Wanted}
 use Rattle.field_laws.specs.Written.{suits}
 use Rattle.protocol.specs.Message.{CommandHeader, StatusWord, maxCommandCiphertext, maxResponseCiphertext}
 

@@ -8,11 +8,12 @@ use Rattle.compare.specs.Same.{same}
 use Rattle.fields.specs.Field.{readField, ciphertextOf, coveredOf, macOf}
 use Rattle.fields.specs.declared.Objects.{Objects}
 use Rattle.objects.specs.Objects.{responseObjects, responseField}
-use Rattle.objects.specs.Lengths.{responseLength}
-use Rattle.objects.specs.MacInput.{responseMacInput}
+use Rattle.field_lengths.specs.Lengths.{responseLength}
+use Rattle.mac_input.specs.MacInput.{responseMacInput}
 use Rattle.refusal.specs.declared.Refusal.the-variants.{SessionClosed, OutOfTurn, NotPermitted, TooLong, BufferTooSmall, BadMac, Unprotected}
-use Rattle.session.specs.Session.{responseTaken, keyIn}
-use Rattle.session.specs.Turn.{isTurn}
+use Rattle.transitions.specs.Transitions.{responseTaken}
+use Rattle.stored_keys.specs.StoredKeys.{keyIn}
+use Rattle.turn.specs.Turn.{isTurn}
 use Rattle.validity.specs.Valid.{countsAsOpen}
 use Rattle.session.specs.declared.Side.the-variants.{Host, Card}
 use Rattle.session.specs.declared.Phase.the-variants.{Pending}

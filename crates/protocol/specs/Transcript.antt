@@ -10,9 +10,9 @@ use Rattle.fields.specs.declared.Objects.{Objects}
 use Rattle.fields.specs.declared.FieldRead.{FieldRead}
 use Rattle.fields.specs.declared.FieldRead.the-variants.{Read, Malformed as BadField, Missing}
 use Rattle.objects.specs.Objects.{commandObjects, responseObjects, commandField, responseField}
-use Rattle.objects.specs.MacInput.{responseMacInput}
+use Rattle.mac_input.specs.MacInput.{responseMacInput}
 use Rattle.session.specs.Session.{closed}
-use Rattle.session.specs.Opening.{Keys}
+use Rattle.stored_keys.specs.StoredKeys.{Keys}
 use Rattle.session.specs.declared.Side.{Side}
 use Rattle.session.specs.declared.Side.the-variants.{Host, Card}
 use Rattle.session.specs.declared.Session.{Session}

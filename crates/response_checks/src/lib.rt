@@ -1,12 +1,12 @@
 // The tests of wrapping and unwrapping a response, in document 01's order.
-use objects::response_length;
+use field_lengths::response_length;
 use permission::status_permitted;
 use refusal::Refusal;
 use results::Checked;
 use session::Phase;
 use session::Session;
 use session::Side;
-use session::is_turn;
+use turn::is_turn;
 use validity::counts_as_open;
 ghost use mathlib.Core.Path.{_≡_};
 ghost use Rattle.results.specs.Results.{checked};

@@ -1,6 +1,5 @@
 -- The answers of the definitions as the functions give them: what a call writes stands in the caller's buffer, so the result has its length.
 -- Assumes nothing.
-use mathlib.Core.Bool.{Bool}
 use lib.ListN.{length}
 use Rattle.octets.specs.Bytes.{Bytes}
 use Rattle.protocol.specs.Message.{Response}

@@ -11,19 +11,18 @@ use lib.ListN.{length, length-append}
 use lib.Seq.{take-at, drop-at}
 use Rattle.octets.specs.Bytes.{Bytes}
 use Rattle.octets.proofs.Tests.{both}
-use Rattle.session.specs.Suites.{number, suiteOf}
+use Rattle.suite.specs.Suites.{number, suiteOf}
 use Rattle.session.specs.Arrays.{Arrays}
 use Rattle.session.specs.declared.Side.{Side}
 use Rattle.session.specs.declared.Side.the-variants.{Host, Card}
 use Rattle.session.specs.declared.Phase.{Phase}
 use Rattle.session.specs.declared.Phase.the-variants.{Ready, Pending, Closed}
-use Rattle.session.specs.declared.Suite.{Suite}
-use Rattle.session.specs.declared.Suite.the-variants.{Cs2, Cs7}
-use Rattle.session.specs.declared.SuiteNumber.the-variants.{Known}
+use Rattle.suite.specs.declared.Suite.{Suite}
+use Rattle.suite.specs.declared.Suite.the-variants.{Cs2, Cs7}
+use Rattle.suite.specs.declared.SuiteNumber.the-variants.{Known}
 use Rattle.session.specs.declared.Session.{Session}
 use Rattle.validity.specs.Valid.{valid, keepsPhase}
-use Rattle.saved.specs.Saved.{sideNumber, phaseNumber, header, keys, mcvs, encode}
-use Rattle.saved.specs.Saved.{headed, sideFrom, phaseFrom, part, sessionFrom, decodedTo, accepted, decodeSuite, decode}
+use Rattle.saved.specs.Saved.{sideNumber, phaseNumber, header, keys, mcvs, encode, headed, sideFrom, phaseFrom, part, sessionFrom, decodedTo, accepted, decodeSuite, decode}
 use Rattle.saved.proofs.SavedParts.{length-header, length-keys, length-mcvs}
 
 -- ---- numbers

@@ -13,16 +13,15 @@ use lib.Seq.{length-take-le, drop-cons, drop-drop, getD-take, getD-drop, take-al
 use Rattle.octets.specs.Bytes.{Bytes, IsBytes}
 use Rattle.octets.specs.Choice.{if_then_else_}
 use Rattle.octets.proofs.ByteStrings.{byte-at}
-use Rattle.session.specs.Suites.{number, suiteOf}
+use Rattle.suite.specs.Suites.{number, suiteOf}
 use Rattle.session.specs.Arrays.{Block, Arrays}
-use Rattle.session.specs.declared.Suite.{Suite}
-use Rattle.session.specs.declared.Suite.the-variants.{Cs2, Cs7}
-use Rattle.session.specs.declared.SuiteNumber.{SuiteNumber}
-use Rattle.session.specs.declared.SuiteNumber.the-variants.{Known, Unknown}
+use Rattle.suite.specs.declared.Suite.{Suite}
+use Rattle.suite.specs.declared.Suite.the-variants.{Cs2, Cs7}
+use Rattle.suite.specs.declared.SuiteNumber.{SuiteNumber}
+use Rattle.suite.specs.declared.SuiteNumber.the-variants.{Known, Unknown}
 use Rattle.session.specs.declared.Session.{Session}
 use Rattle.validity.specs.Valid.{valid}
-use Rattle.saved.specs.Saved.{sideNumber, phaseNumber, header, keys, mcvs, encode}
-use Rattle.saved.specs.Saved.{headed, sideFrom, phaseFrom, part, sessionFrom, accepted, decodeSuite, decode}
+use Rattle.saved.specs.Saved.{sideNumber, phaseNumber, header, keys, mcvs, encode, headed, sideFrom, phaseFrom, part, sessionFrom, accepted, decodeSuite, decode}
 use Rattle.saved.specs.declared.Decoding.the-variants.{Decoded as Done}
 use Rattle.saved.specs.declared.Decoded.{Decoded}
 use Rattle.saved.proofs.SavedParts.{Headed, headed-right}

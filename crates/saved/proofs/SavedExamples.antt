@@ -3,9 +3,10 @@
 use mathlib.Core.Path.{_≡_, refl}
 use mathlib.Core.List.{[], _∷_}
 use Rattle.octets.specs.Bytes.{zeros}
-use Rattle.session.specs.Session.{closedAt, fresh, commandTaken}
+use Rattle.session.specs.Session.{closedAt, fresh}
+use Rattle.transitions.specs.Transitions.{commandTaken}
 use Rattle.session.specs.declared.Side.the-variants.{Host, Card}
-use Rattle.session.specs.declared.Suite.the-variants.{Cs2, Cs7}
+use Rattle.suite.specs.declared.Suite.the-variants.{Cs2, Cs7}
 use Rattle.validity.specs.Valid.{allZero, keysZero, mcvsZero, keepsPhase, valid}
 use Rattle.saved.specs.Saved.{header, keys, mcvs, encode, headed, sessionFrom, decodedTo, unreadable, accepted, decodeSuite, decode}
 

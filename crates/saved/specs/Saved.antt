@@ -8,15 +8,15 @@ use Rattle.octets.specs.Bytes.{Bytes}
 use Rattle.octets.specs.Choice.{if_then_else_}
 use Rattle.octets.specs.Write.{over}
 use Rattle.refusal.specs.declared.Refusal.the-variants.{SessionClosed, BufferTooSmall, BadSession}
-use Rattle.session.specs.Suites.{number, suiteOf}
+use Rattle.suite.specs.Suites.{number, suiteOf}
 use Rattle.session.specs.Session.{noSession}
 use Rattle.session.specs.declared.Side.{Side}
 use Rattle.session.specs.declared.Side.the-variants.{Host, Card}
 use Rattle.session.specs.declared.Phase.{Phase}
 use Rattle.session.specs.declared.Phase.the-variants.{Ready, Pending, Closed}
-use Rattle.session.specs.declared.Suite.{Suite}
-use Rattle.session.specs.declared.SuiteNumber.{SuiteNumber}
-use Rattle.session.specs.declared.SuiteNumber.the-variants.{Known, Unknown}
+use Rattle.suite.specs.declared.Suite.{Suite}
+use Rattle.suite.specs.declared.SuiteNumber.{SuiteNumber}
+use Rattle.suite.specs.declared.SuiteNumber.the-variants.{Known, Unknown}
 use Rattle.session.specs.declared.Session.{Session}
 use Rattle.validity.specs.Valid.{valid}
 use Rattle.saved.specs.declared.Encoding.{Encoding}

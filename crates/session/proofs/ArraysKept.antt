@@ -1,4 +1,4 @@
--- A session's arrays keep their lengths and hold bytes: after opening, after a command and its response, and closed.
+-- A session's arrays keep their lengths and hold bytes: after opening, and closed.
 -- Assumes nothing.
 use mathlib.Core.Path.{_≡_, refl, sym, ap, subst, _∙_}
 use mathlib.Core.Bool.{Bool, true, false}
@@ -10,16 +10,17 @@ use lib.ListN.{length, getD, length-append, length-replicate, getD-replicate, Li
 use lib.Seq.{getD-append-add}
 use Rattle.octets.specs.Bytes.{Bytes, IsBytes, zeros}
 use Rattle.octets.proofs.ByteStrings.{by-test}
-use Rattle.session.specs.Suites.{keyLength, suiteOf}
-use Rattle.session.specs.Session.{closed, closedAt, commandTaken, responseTaken, stored}
-use Rattle.session.specs.Opening.{Keys, keysFit, openSuite, opening}
-use Rattle.session.specs.Arrays.{Block, KeysOfBytes, Arrays}
+use Rattle.suite.specs.Suites.{keyLength, suiteOf}
+use Rattle.session.specs.Session.{closed, closedAt}
+use Rattle.stored_keys.specs.StoredKeys.{stored, Keys, keysFit, KeysOfBytes}
+use Rattle.session.specs.Opening.{openSuite, opening}
+use Rattle.session.specs.Arrays.{Block, Arrays}
 use Rattle.session.specs.declared.Side.{Side}
-use Rattle.session.specs.declared.Suite.{Suite}
-use Rattle.session.specs.declared.SuiteNumber.{SuiteNumber}
-use Rattle.session.specs.declared.SuiteNumber.the-variants.{Known, Unknown}
+use Rattle.suite.specs.declared.Suite.{Suite}
+use Rattle.suite.specs.declared.SuiteNumber.{SuiteNumber}
+use Rattle.suite.specs.declared.SuiteNumber.the-variants.{Known, Unknown}
 use Rattle.session.specs.declared.Session.{Session}
-use Rattle.session.proofs.StoredKeys.{key-length-most, fitting}
+use Rattle.stored_keys.proofs.StoredKeys.{key-length-most, fitting}
 
 zero-block : (n : ℕ) → Block n (zeros n)
 zero-block n =
@@ -59,12 +60,6 @@ closed-at-arrays side suite =
 
 pub closed-arrays : (s : Session) → Arrays (closed s)
 closed-arrays s = closed-at-arrays (s .side) (s .suite)
-
-pub command-arrays : {s : Session} {mcv : Bytes} → Arrays s → Block 16 mcv → Arrays (commandTaken s mcv)
-command-arrays a m = record { enc = a .enc; mac = a .mac; rmac = a .rmac; command = m; response = a .response }
-
-pub response-arrays : {s : Session} {mcv : Bytes} → Arrays s → Block 16 mcv → Arrays (responseTaken s mcv)
-response-arrays a m = record { enc = a .enc; mac = a .mac; rmac = a .rmac; command = a .command; response = m }
 
 -- refused or not
 pub opening-arrays : (side : Side) (suite : ℕ) (k : Keys) → KeysOfBytes k → Arrays (opening side suite k .session)

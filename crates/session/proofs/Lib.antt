@@ -1,3 +1,2 @@
-pub mod StoredKeys
 pub mod ArraysKept
 pub mod SessionExamples

@@ -1,22 +1,15 @@
--- What the types say of a session's arrays and of the keys handed in: their lengths, and that they hold bytes.
+-- What the types say of a session's arrays: their lengths, and that they hold bytes.
 -- Assumes nothing.
 use mathlib.Core.Path.{_≡_}
 use Prim.Native.Nat.{ℕ}
 use lib.ListN.{length}
 use Rattle.octets.specs.Bytes.{Bytes, IsBytes}
-use Rattle.session.specs.Opening.{Keys}
 use Rattle.session.specs.declared.Session.{Session}
 
 -- n bytes
 pub record Block (n : ℕ) (xs : Bytes) : Type 0 where
   pub size : length xs ≡ n
   pub bytes : IsBytes xs
-
--- keys as a caller hands them in, of any length
-pub record KeysOfBytes (k : Keys) : Type 0 where
-  pub enc : IsBytes (k .enc)
-  pub mac : IsBytes (k .mac)
-  pub rmac : IsBytes (k .rmac)
 
 pub record Arrays (s : Session) : Type 0 where
   pub enc : Block 32 (s .«sk_enc»)

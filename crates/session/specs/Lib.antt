@@ -1,5 +1,3 @@
-pub mod Suites
 pub mod Session
 pub mod Opening
-pub mod Turn
 pub mod Arrays

@@ -1,14 +1,14 @@
 // The session of secure messaging: a value that each call takes and gives back (document 01, "The session and whose turn it is").
-use octets::put_bytes;
 use refusal::Refusal;
+use stored_keys::keys_fit;
+use stored_keys::stored;
+use suite::Suite;
+use suite::SuiteNumber;
+use suite::suite_of;
 ghost use mathlib.Core.Path.{_≡_};
-ghost use Prim.Native.Nat.{_<_, _≤_};
-ghost use lib.ListN.{length};
-ghost use Rattle.session.specs.Suites.{keyLength, number, suiteOf};
-ghost use Rattle.session.specs.Session.{fresh, closed, closedAt, noSession, commandTaken, responseTaken, stored};
-ghost use Rattle.session.specs.Turn.{sameSide, samePhase, isTurn};
-ghost use Rattle.session.specs.Arrays.{KeysOfBytes};
-ghost use Rattle.session.specs.Opening.{keys, keysFit, notOpened, openSuite, opening};
+ghost use Rattle.stored_keys.specs.StoredKeys.{KeysOfBytes, keys};
+ghost use Rattle.session.specs.Session.{fresh, closed, closedAt, noSession};
+ghost use Rattle.session.specs.Opening.{notOpened, openSuite, opening};
 
 pub enum Side {
     Host,
@@ -20,12 +20,6 @@ pub enum Phase {
     // A command is outstanding: the host waits for its response, the card is to wrap it.
     Pending,
     Closed,
-}
-
-// The cipher suites of SP 800-73-4 Part 2, Table 14.
-pub enum Suite {
-    Cs2,
-    Cs7,
 }
 
 pub struct Session {
@@ -43,12 +37,6 @@ pub struct Session {
     pub response_mcv: [u8; 16],
 }
 
-// What a suite's number stands for.
-pub enum SuiteNumber {
-    Known(Suite),
-    Unknown,
-}
-
 pub enum Opening {
     Opened,
     Refused(Refusal),
@@ -58,40 +46,6 @@ pub enum Opening {
 pub struct Opened {
     pub answer: Opening,
     pub session: Session,
-}
-
-// The suite of that number.
-pub fn suite_of(n: u32) -> SuiteNumber
-    ensures { λ r. ⌜ r ≡ suiteOf n ⌝ }
-{
-    if n == 2 {
-        return SuiteNumber::Known(Suite::Cs2);
-    }
-    if n == 7 {
-        return SuiteNumber::Known(Suite::Cs7);
-    }
-    SuiteNumber::Unknown
-}
-
-impl Suite {
-    // The length of each session key.
-    pub fn key_length(self) -> usize
-        ensures { λ n. ⌜ n ≡ keyLength self ⌝ }
-    {
-        match self {
-            Suite::Cs2 => 16,
-            Suite::Cs7 => 32,
-        }
-    }
-
-    pub fn number(self) -> u8
-        ensures { λ n. ⌜ n ≡ number self ⌝ }
-    {
-        match self {
-            Suite::Cs2 => 2,
-            Suite::Cs7 => 7,
-        }
-    }
 }
 
 impl Session {
@@ -157,53 +111,6 @@ impl Session {
         Session::closed_at(side, suite)
     }
 
-    // After a command wrapped, at the host, or accepted, at the card.
-    pub fn command_taken(self, mcv: [u8; 16]) -> Session
-        requires { ⌜ self .count < 65535 ⌝ }
-        ensures { λ session. ⌜ session ≡ commandTaken self mcv ⌝ }
-    {
-        let side = self.side;
-        let suite = self.suite;
-        let sk_enc = self.sk_enc;
-        let sk_mac = self.sk_mac;
-        let sk_rmac = self.sk_rmac;
-        let response_mcv = self.response_mcv;
-        Session {
-            side,
-            phase: Phase::Pending,
-            suite,
-            count: self.count + 1,
-            sk_enc,
-            sk_mac,
-            sk_rmac,
-            command_mcv: mcv,
-            response_mcv,
-        }
-    }
-
-    // After its response wrapped, at the card, or accepted, at the host.
-    pub fn response_taken(self, mcv: [u8; 16]) -> Session
-        ensures { λ session. ⌜ session ≡ responseTaken self mcv ⌝ }
-    {
-        let side = self.side;
-        let suite = self.suite;
-        let sk_enc = self.sk_enc;
-        let sk_mac = self.sk_mac;
-        let sk_rmac = self.sk_rmac;
-        let command_mcv = self.command_mcv;
-        Session {
-            side,
-            phase: Phase::Ready,
-            suite,
-            count: self.count,
-            sk_enc,
-            sk_mac,
-            sk_rmac,
-            command_mcv,
-            response_mcv: mcv,
-        }
-    }
-
     // The host's opening: refusals 11 and 12.
     pub fn open_host(suite: u32, sk_enc: &[u8], sk_mac: &[u8], sk_rmac: &[u8]) -> Opened
         ensures opened { λ opened. ⌜ opened ≡ opening Side.Host suite (keys (now («sk_enc» .entry)) (now («sk_mac» .entry)) (now («sk_rmac» .entry))) ⌝ }
@@ -219,27 +126,6 @@ impl Session {
     {
         open_session(Side::Card, suite, sk_enc, sk_mac, sk_rmac)
     }
-}
-
-// A key in its 32 bytes.
-fn stored(key: &[u8]) -> [u8; 32]
-    requires { ⌜ length (now key) ≤ 32 ⌝ }
-    ensures { λ bytes. ⌜ bytes ≡ stored (now (key .entry)) ⌝ }
-{
-    let mut bytes = [0u8; 32];
-    put_bytes(&mut bytes, 0, key);
-    bytes
-}
-
-fn keys_fit(n: usize, enc: &[u8], mac: &[u8], rmac: &[u8]) -> bool
-    ensures { λ fit. ⌜ fit ≡ keysFit n (keys (now (enc .entry)) (now (mac .entry)) (now (rmac .entry))) ⌝ }
-{
-    if enc.len() == n {
-        if mac.len() == n {
-            return rmac.len() == n;
-        }
-    }
-    false
 }
 
 fn not_opened(side: Side, refusal: Refusal) -> Opened
@@ -275,53 +161,4 @@ fn open_session(side: Side, suite: u32, enc: &[u8], mac: &[u8], rmac: &[u8]) -> 
         SuiteNumber::Known(cipher_suite) => open_suite(side, cipher_suite, enc, mac, rmac),
         SuiteNumber::Unknown => not_opened(side, Refusal::UnknownSuite),
     }
-}
-
-fn same_side(a: Side, b: Side) -> bool
-    ensures { λ same. ⌜ same ≡ sameSide a b ⌝ }
-{
-    match a {
-        Side::Host => match b {
-            Side::Host => true,
-            Side::Card => false,
-        },
-        Side::Card => match b {
-            Side::Host => false,
-            Side::Card => true,
-        },
-    }
-}
-
-fn same_phase(a: Phase, b: Phase) -> bool
-    ensures { λ same. ⌜ same ≡ samePhase a b ⌝ }
-{
-    match a {
-        Phase::Ready => match b {
-            Phase::Ready => true,
-            Phase::Pending => false,
-            Phase::Closed => false,
-        },
-        Phase::Pending => match b {
-            Phase::Ready => false,
-            Phase::Pending => true,
-            Phase::Closed => false,
-        },
-        Phase::Closed => match b {
-            Phase::Ready => false,
-            Phase::Pending => false,
-            Phase::Closed => true,
-        },
-    }
-}
-
-// Whether a call that is made at that side, in that phase, is in turn.
-pub fn is_turn(side: Side, phase: Phase, session: Session) -> bool
-    ensures { λ turn. ⌜ turn ≡ isTurn side phase session ⌝ }
-{
-    let own = session.side;
-    let now = session.phase;
-    if same_side(own, side) {
-        return same_phase(now, phase);
-    }
-    false
 }

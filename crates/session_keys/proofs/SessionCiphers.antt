@@ -11,10 +11,10 @@ use Rattle.key_schedule.specs.declared.KeySize.{KeySize}
 use Rattle.key_expansion.specs.KeyExpansion.{schedule}
 use Rattle.key_expansion.proofs.KeyStart.{schedule-start}
 use Rattle.aes.specs.Aes.{aes, invAes, ciph as scheduleCiph, invCiph as scheduleInvCiph}
-use Rattle.session.specs.Suites.{keyLength}
-use Rattle.session.specs.Session.{keyIn}
-use Rattle.session.specs.declared.Suite.{Suite}
-use Rattle.session.specs.declared.Suite.the-variants.{Cs2, Cs7}
+use Rattle.suite.specs.Suites.{keyLength}
+use Rattle.stored_keys.specs.StoredKeys.{keyIn}
+use Rattle.suite.specs.declared.Suite.{Suite}
+use Rattle.suite.specs.declared.Suite.the-variants.{Cs2, Cs7}
 use Rattle.ciphers.specs.Aes.{sizeOf, ciph, invCiph}
 use Rattle.session_keys.specs.SessionKeys.{keySize}
 

@@ -1,7 +1,7 @@
 // The session keys as AES takes them.
 use key_expansion::key_expansion;
 use key_schedule::KeySize;
-use session::Suite;
+use suite::Suite;
 ghost use mathlib.Core.Path.{_≡_};
 ghost use Rattle.key_expansion.specs.KeyExpansion.{schedule};
 ghost use Rattle.session_keys.specs.SessionKeys.{keySize};

@@ -9,8 +9,8 @@ use Rattle.aes.specs.Aes.{ciph as scheduleCiph}
 use Rattle.cmac.specs.Cmac.{cmac}
 use Rattle.cmac.specs.Running.{start, absorb, finish}
 use Rattle.cmac.proofs.Theorems.{absorb-append, cmac-aes}
-use Rattle.session.specs.Session.{keyIn}
-use Rattle.session.specs.declared.Suite.{Suite}
+use Rattle.stored_keys.specs.StoredKeys.{keyIn}
+use Rattle.suite.specs.declared.Suite.{Suite}
 use Rattle.ciphers.specs.Aes.{ciph}
 use Rattle.session_keys.specs.SessionKeys.{keySize}
 use Rattle.session_keys.proofs.SessionCiphers.{same-cipher}

@@ -1,14 +1,14 @@
 // The full MAC of a command and of a response (SP 800-73-4 Part 2, 4.2.3 and 4.2.5), over the field's bytes where they stand.
 use cmac::Cmac;
-use objects::encoded_header;
+use mac_input::encoded_header;
 use octets::put_bytes;
-use session::Suite;
 use session_keys::expanded;
 use session_keys::key_size;
+use suite::Suite;
 ghost use mathlib.Core.Path.{_≡_};
 ghost use lib.ListN.{take};
-ghost use Rattle.objects.specs.MacInput.{commandMacInput, responseMacInput};
-ghost use Rattle.session.specs.Session.{keyIn};
+ghost use Rattle.mac_input.specs.MacInput.{commandMacInput, responseMacInput};
+ghost use Rattle.stored_keys.specs.StoredKeys.{keyIn};
 ghost use Rattle.cmac.specs.Cmac.{cmac};
 ghost use Rattle.ciphers.specs.Aes.{ciph};
 

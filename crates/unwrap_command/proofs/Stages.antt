@@ -10,12 +10,12 @@ use Rattle.compare.specs.Same.{same}
 use Rattle.counter.specs.Counter.{commandCounter}
 use Rattle.fields.specs.Field.{readField, ciphertextOf, coveredOf, macOf}
 use Rattle.fields.specs.declared.Objects.{Objects}
-use Rattle.fields.specs.declared.Breach.{Breach}
+use Rattle.data_object.specs.declared.Breach.{Breach}
 use Rattle.fields.specs.declared.FieldRead.{FieldRead}
 use Rattle.fields.specs.declared.FieldRead.the-variants.{Read, Malformed as BadField, Missing}
 use Rattle.refusal.specs.declared.Refusal.{Refusal}
 use Rattle.refusal.specs.declared.Refusal.the-variants.{BufferTooSmall, Malformed, MissingObject, BadMac, BadPadding}
-use Rattle.session.specs.Session.{keyIn}
+use Rattle.stored_keys.specs.StoredKeys.{keyIn}
 use Rattle.session.specs.declared.Session.{Session}
 use Rattle.ciphers.specs.Aes.{decrypt, aesCiphers}
 use Rattle.protocol.specs.Permission.{commandWanted}
@@ -72,7 +72,7 @@ module _ (s : Session) (ins p1 p2 : ℕ) (field : Bytes) (room : ℕ) where
   unfolding objectsOf _and-then_ after
   when-missing tag end e = ap after e
 
--- ---- the tests
+  -- ---- the tests
 
   pub when-passed : checked (unwrapCommandChecks s ins (length field)) ≡ Passed → unwrapCommand s ins p1 p2 field room ≡ concluded s (readCommand s ins p1 p2 field room)
   unfolding cardUnwraps

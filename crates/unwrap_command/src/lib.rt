@@ -17,6 +17,7 @@ use results::refused_command;
 use session::Session;
 use session_mac::command_mac;
 use session_mac::truncated;
+use transitions::command_taken;
 ghost use mathlib.Core.Path.{_≡_};
 ghost use Prim.Native.Nat.{_<_};
 ghost use lib.ListN.{length};
@@ -59,7 +60,7 @@ fn open_command(
     let Unpadded::Data(n) = text else {
         return refused_command(session, Refusal::BadPadding);
     };
-    let next = session.command_taken(full);
+    let next = command_taken(session, full);
     CommandResult {
         answer: CommandAnswer::Accepted(n, objects.second),
         session: next,

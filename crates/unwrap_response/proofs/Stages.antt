@@ -3,19 +3,19 @@
 use mathlib.Core.Path.{_≡_, ap}
 use mathlib.Core.Bool.{Bool, true, false}
 use mathlib.Core.Option.{Option, none, some}
-use Prim.Native.Nat.{ℕ, _+_, _<_, _≤_}
+use Prim.Native.Nat.{ℕ, _<_, _≤_}
 use lib.ListN.{length, take}
 use Rattle.octets.specs.Bytes.{Bytes}
 use Rattle.compare.specs.Same.{same}
 use Rattle.counter.specs.Counter.{responseCounter}
 use Rattle.fields.specs.Field.{readField, ciphertextOf, coveredOf, macOf}
 use Rattle.fields.specs.declared.Objects.{Objects}
-use Rattle.fields.specs.declared.Breach.{Breach}
+use Rattle.data_object.specs.declared.Breach.{Breach}
 use Rattle.fields.specs.declared.FieldRead.{FieldRead}
 use Rattle.fields.specs.declared.FieldRead.the-variants.{Read, Malformed as BadField, Missing}
 use Rattle.refusal.specs.declared.Refusal.{Refusal}
 use Rattle.refusal.specs.declared.Refusal.the-variants.{BufferTooSmall, Malformed, MissingObject, BadMac, BadPadding}
-use Rattle.session.specs.Session.{keyIn}
+use Rattle.stored_keys.specs.StoredKeys.{keyIn}
 use Rattle.session.specs.declared.Session.{Session}
 use Rattle.ciphers.specs.Aes.{decrypt, aesCiphers}
 use Rattle.protocol.specs.Message.{Response}
@@ -73,7 +73,7 @@ module _ (s : Session) (sw1 sw2 : ℕ) (field : Bytes) (room : ℕ) where
   unfolding objectsOf _and-then_ after
   when-missing tag end e = ap after e
 
--- ---- the tests
+  -- ---- the tests
 
   pub when-passed : checked (unwrapResponseChecks s (status sw1 sw2) (length field)) ≡ Passed → unwrapResponse s sw1 sw2 field room ≡ concluded s (readResponse s sw1 sw2 field room)
   unfolding hostUnwraps

@@ -17,6 +17,7 @@ use results::refused_response;
 use session::Session;
 use session_mac::response_mac;
 use session_mac::truncated;
+use transitions::response_taken;
 ghost use mathlib.Core.Path.{_≡_};
 ghost use Prim.Native.Nat.{_≤_};
 ghost use lib.ListN.{length};
@@ -58,7 +59,7 @@ fn open_response(
     let Unpadded::Data(n) = text else {
         return refused_response(session, Refusal::BadPadding);
     };
-    let next = session.response_taken(full);
+    let next = response_taken(session, full);
     ResponseResult {
         answer: ResponseAnswer::Accepted(n, sw1, sw2),
         session: next,
@@ -66,13 +67,7 @@ fn open_response(
 }
 
 // Of a response that passed its tests: refusals 7 and 8, and those behind them.
-fn read_response(
-    session: Session,
-    sw1: u8,
-    sw2: u8,
-    field: &[u8],
-    out: &mut [u8],
-) -> ResponseResult
+fn read_response(session: Session, sw1: u8, sw2: u8, field: &[u8], out: &mut [u8]) -> ResponseResult
     requires { ⌜ session .count ≤ 65535 ⌝ }
     ensures result { λ r. ⌜ r ≡ responseResult (concluded session (readResponse session sw1 sw2 (now (field .entry)) (length (now (out .entry))))) ⌝ }
     ensures output { λ _. ⌜ now (out .exit) ≡ buffer payloadOf (now (out .entry)) (concluded session (readResponse session sw1 sw2 (now (field .entry)) (length (now (out .entry)))) .answer) ⌝ }

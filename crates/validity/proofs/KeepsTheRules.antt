@@ -12,18 +12,20 @@ use lib.Seq.{drop-at}
 use Rattle.octets.specs.Bytes.{Bytes, zeros}
 use Rattle.octets.specs.Choice.{if_then_else_}
 use Rattle.octets.proofs.Tests.{both, and-intro}
-use Rattle.session.specs.Suites.{keyLength, suiteOf}
-use Rattle.session.specs.Session.{fresh, closed, commandTaken, responseTaken, stored}
-use Rattle.session.specs.Opening.{Keys, keysFit, openSuite, opening}
+use Rattle.suite.specs.Suites.{keyLength, suiteOf}
+use Rattle.session.specs.Session.{fresh, closed}
+use Rattle.transitions.specs.Transitions.{commandTaken, responseTaken}
+use Rattle.stored_keys.specs.StoredKeys.{stored, Keys, keysFit}
+use Rattle.session.specs.Opening.{openSuite, opening}
 use Rattle.session.specs.declared.Side.{Side}
-use Rattle.session.specs.declared.Suite.{Suite}
-use Rattle.session.specs.declared.SuiteNumber.{SuiteNumber}
-use Rattle.session.specs.declared.SuiteNumber.the-variants.{Known, Unknown}
+use Rattle.suite.specs.declared.Suite.{Suite}
+use Rattle.suite.specs.declared.SuiteNumber.{SuiteNumber}
+use Rattle.suite.specs.declared.SuiteNumber.the-variants.{Known, Unknown}
 use Rattle.session.specs.declared.Phase.{Phase}
 use Rattle.session.specs.declared.Phase.the-variants.{Ready, Pending}
 use Rattle.session.specs.declared.Opening.the-variants.{Opened as Done}
 use Rattle.session.specs.declared.Session.{Session}
-use Rattle.session.proofs.StoredKeys.{fitting}
+use Rattle.stored_keys.proofs.StoredKeys.{fitting}
 use Rattle.validity.specs.Valid.{allZero, keysEnd, keysZero, mcvsZero, keepsPhase, valid, isOpen, countsAsOpen}
 
 zeros-are-zero : (n : ℕ) → allZero (zeros n) ≡ true

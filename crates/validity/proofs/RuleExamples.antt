@@ -6,8 +6,8 @@ use mathlib.Core.List.{_∷_, _++_}
 use Prim.Native.Nat.{ℕ}
 use Rattle.octets.specs.Bytes.{Bytes, zeros}
 use Rattle.session.specs.declared.Side.the-variants.{Host}
-use Rattle.session.specs.declared.Suite.{Suite}
-use Rattle.session.specs.declared.Suite.the-variants.{Cs2, Cs7}
+use Rattle.suite.specs.declared.Suite.{Suite}
+use Rattle.suite.specs.declared.Suite.the-variants.{Cs2, Cs7}
 use Rattle.session.specs.declared.Phase.{Phase}
 use Rattle.session.specs.declared.Phase.the-variants.{Ready, Pending, Closed}
 use Rattle.session.specs.declared.Session.{Session}

@@ -6,7 +6,7 @@ use lib.Dec.{eqb, leb}
 use lib.ListN.{drop}
 use Rattle.octets.specs.Bytes.{Bytes}
 use Rattle.octets.specs.Choice.{if_then_else_}
-use Rattle.session.specs.Suites.{keyLength}
+use Rattle.suite.specs.Suites.{keyLength}
 use Rattle.session.specs.declared.Phase.{Phase}
 use Rattle.session.specs.declared.Phase.the-variants.{Ready, Pending, Closed}
 use Rattle.session.specs.declared.Session.{Session}

@@ -11,13 +11,14 @@ use results::refused_wrap;
 use session::Session;
 use session_mac::command_mac;
 use session_mac::truncated;
+use transitions::command_taken;
 ghost use mathlib.Core.Path.{_≡_};
 ghost use Prim.Native.Nat.{_+_, _<_, _≤_};
 ghost use lib.ListN.{length};
 ghost use Rattle.octets.specs.Bytes.{IsBytes};
 ghost use Rattle.octets.specs.Write.{over, Wrote};
 ghost use Rattle.objects.specs.Objects.{commandObjects};
-ghost use Rattle.objects.specs.Lengths.{commandLength};
+ghost use Rattle.field_lengths.specs.Lengths.{commandLength};
 ghost use Rattle.ciphers.specs.Aes.{aesCiphers};
 ghost use Rattle.protocol.specs.Answer.{given, buffer};
 ghost use Rattle.protocol.specs.Command.{commandCiphertext};
@@ -59,7 +60,7 @@ fn write_command(
     let end = put_objects(session, le, data, out);
     let full = command_mac(suite, sk_mac, mcv, ins, p1, p2, &out[..end]);
     let len = put_mac(out, end, truncated(full));
-    let next = session.command_taken(full);
+    let next = command_taken(session, full);
     WrapResult {
         answer: WrapAnswer::Wrapped(len),
         session: next,

@@ -1,7 +1,6 @@
 -- The wrap of a response is what its tests answer, or, where they pass, the field.
 -- Assumes nothing.
 use mathlib.Core.Path.{_≡_}
-use mathlib.Core.Bool.{Bool}
 use Prim.Native.Nat.{ℕ}
 use lib.ListN.{length}
 use Rattle.octets.specs.Bytes.{Bytes}

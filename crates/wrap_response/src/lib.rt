@@ -11,13 +11,14 @@ use results::refused_wrap;
 use session::Session;
 use session_mac::response_mac;
 use session_mac::truncated;
+use transitions::response_taken;
 ghost use mathlib.Core.Path.{_≡_};
 ghost use Prim.Native.Nat.{_+_, _≤_};
 ghost use lib.ListN.{length};
 ghost use Rattle.octets.specs.Bytes.{IsBytes};
 ghost use Rattle.octets.specs.Write.{over, Wrote};
 ghost use Rattle.objects.specs.Objects.{responseObjects};
-ghost use Rattle.objects.specs.Lengths.{responseLength};
+ghost use Rattle.field_lengths.specs.Lengths.{responseLength};
 ghost use Rattle.ciphers.specs.Aes.{aesCiphers};
 ghost use Rattle.protocol.specs.Answer.{given, buffer};
 ghost use Rattle.protocol.specs.Response.{responseCiphertext};
@@ -51,7 +52,7 @@ fn write_response(session: Session, sw1: u8, sw2: u8, data: &[u8], out: &mut [u8
     let end = put_objects(session, sw1, sw2, data, out);
     let full = response_mac(suite, sk_rmac, mcv, &out[..end]);
     let len = put_mac(out, end, truncated(full));
-    let next = session.response_taken(full);
+    let next = response_taken(session, full);
     WrapResult {
         answer: WrapAnswer::Wrapped(len),
         session: next,

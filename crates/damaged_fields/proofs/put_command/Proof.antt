@@ -6,7 +6,7 @@ use Rattle.octets.proofs.Writing.{wrote-length}
 use Rattle.padding.specs.Padding.{paddedLength}
 use Rattle.tlv.specs.Length.{lengthField}
 use Rattle.objects.specs.Objects.{object, encryptedData, leObject, commandObjects}
-use Rattle.objects.specs.Lengths.{ciphertextLength, encryptedDataLength, commandLength}
+use Rattle.field_lengths.specs.Lengths.{ciphertextLength, encryptedDataLength, commandLength}
 use Rattle.damaged_fields.proofs.put_command.Statement.{statement}
 use Rattle.damaged_fields.proofs.put_command.Tie as tie
 

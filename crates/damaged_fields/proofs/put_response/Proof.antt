@@ -6,7 +6,7 @@ use Rattle.octets.proofs.Writing.{wrote-length}
 use Rattle.padding.specs.Padding.{paddedLength}
 use Rattle.tlv.specs.Length.{lengthField}
 use Rattle.objects.specs.Objects.{object, encryptedData, statusWord, responseObjects}
-use Rattle.objects.specs.Lengths.{ciphertextLength, encryptedDataLength, responseLength}
+use Rattle.field_lengths.specs.Lengths.{ciphertextLength, encryptedDataLength, responseLength}
 use Rattle.damaged_fields.proofs.put_response.Statement.{statement}
 use Rattle.damaged_fields.proofs.put_response.Tie as tie
 

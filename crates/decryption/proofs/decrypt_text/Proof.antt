@@ -3,12 +3,12 @@
 use borrow.Author.Needs.{needs}
 use Rattle.decryption.proofs.decrypt_text.Statement.{statement}
 use Rattle.decryption.proofs.decrypt_text.Tie as tie
-use mathlib.Core.Path.{_≡_, sym, _∙_}
+use mathlib.Core.Path.{sym}
 use native.Mathlib.Omega.{arith}
-use lib.ListN.{length, length-take}
+use lib.ListN.{length-take}
 use lib.Seq.{length-take-le}
 use Rattle.octets.proofs.Writing.{wrote-all}
-use Rattle.session.specs.Session.{keyIn}
+use Rattle.stored_keys.specs.StoredKeys.{keyIn}
 use Rattle.decryption.proofs.InMemory.{length-part, decrypted-part, data-within, nothing-out, data-out}
 
 decrypt-blocks-requires : tie.Need-decrypt-blocks-requires

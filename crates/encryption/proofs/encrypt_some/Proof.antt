@@ -3,12 +3,11 @@
 use borrow.Author.Needs.{needs}
 use Rattle.encryption.proofs.encrypt_some.Statement.{statement}
 use Rattle.encryption.proofs.encrypt_some.Tie as tie
-use mathlib.Core.Path.{_≡_, sym, ap, ap₂, _∙_}
+use mathlib.Core.Path.{_≡_, _∙_}
 use native.Mathlib.Omega.{arith}
-use Prim.Native.Nat.{ℕ}
 use lib.ListN.{length}
 use Rattle.octets.proofs.Writing.{wrote-length}
-use Rattle.padding.specs.Padding.{pad, paddedLength}
+use Rattle.padding.specs.Padding.{paddedLength}
 use Rattle.padding.proofs.Lengths.{length-pad}
 use Rattle.encryption.proofs.Encrypted.{encrypted-in}
 

@@ -6,10 +6,9 @@ use Rattle.encryption.proofs.encrypt_text.Tie as tie
 use native.Mathlib.Omega.{arith}
 use borrow.Author.Tests.{ne-eqb}
 use lib.ListN.{length}
-use Rattle.octets.specs.Write.{Wrote}
 use Rattle.octets.proofs.Writing.{wrote-none}
-use Rattle.session.specs.Session.{keyIn}
-use Rattle.objects.specs.Lengths.{ciphertextLength}
+use Rattle.stored_keys.specs.StoredKeys.{keyIn}
+use Rattle.field_lengths.specs.Lengths.{ciphertextLength}
 use Rattle.encryption.proofs.Encrypted.{encrypt-none}
 
 returns : tie.Need-returns

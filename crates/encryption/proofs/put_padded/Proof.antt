@@ -7,7 +7,6 @@ use native.Mathlib.Omega.{arith}
 use Rattle.octets.proofs.Writing.{wrote-then, wrote-length}
 use Rattle.padding.specs.Padding.{pad, paddedLength}
 use Rattle.padding.proofs.Lengths.{length-padding}
-use Prim.Native.Nat.{_+_}
 use lib.ListN.{length}
 
 put-bytes-requires : tie.Need-put-bytes-requires

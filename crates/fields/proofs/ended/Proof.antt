@@ -3,9 +3,9 @@
 use borrow.Author.Needs.{needs}
 use mathlib.Core.Path.{sym, ap, _∙_}
 use borrow.Author.Tests.{lt-ltb, le-ltb}
-use Rattle.fields.specs.Wanted.{lacks}
+use Rattle.wanted.specs.Wanted.{lacks}
 use Rattle.fields.specs.Field.{ended}
-use Rattle.fields.specs.declared.Need.{Need}
+use Rattle.wanted.specs.declared.Need.{Need}
 use Rattle.fields.proofs.ended.Statement.{statement}
 use Rattle.fields.proofs.ended.Tie as tie
 

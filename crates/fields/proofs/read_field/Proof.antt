@@ -5,11 +5,11 @@ use mathlib.Core.Path.{_≡_, refl, sym, ap, ap₂, _∙_}
 use Prim.Native.Nat.{ℕ, _+_, _-_, _<_, _≤_}
 use native.Mathlib.Omega.{arith}
 use lib.ListN.{length}
-use Rattle.fields.specs.Wanted.{rank}
+use Rattle.wanted.specs.Wanted.{rank}
 use Rattle.fields.specs.Field.{refused, walk, readField}
-use Rattle.fields.specs.declared.DataObject.{DataObject}
+use Rattle.data_object.specs.declared.DataObject.{DataObject}
 use Rattle.fields.specs.declared.Objects.{Objects}
-use Rattle.fields.proofs.Inversion.{stands, later, rank-most, some-byte}
+use Rattle.data_object.proofs.Inversion.{stands, later, rank-most, some-byte}
 use Rattle.fields.proofs.Walk.{walk-end, walk-object, walk-breach}
 use Rattle.fields.proofs.read_field.Statement.{statement}
 use Rattle.fields.proofs.read_field.Tie as tie

@@ -4,9 +4,6 @@ use borrow.Author.Needs.{needs}
 use Rattle.objects.proofs.put_data_header.Statement.{statement}
 use Rattle.objects.proofs.put_data_header.Tie as tie
 use native.Mathlib.Omega.{arith}
-use Prim.Native.Nat.{_+_}
-use lib.ListN.{length}
-use Rattle.tlv.specs.Length.{lengthField}
 use Rattle.octets.proofs.Writing.{wrote-then, wrote-length}
 
 put-length-requires : tie.Need-put-length-requires

@@ -6,9 +6,9 @@ use Rattle.permission.proofs.command_permitted.Tie as tie
 use mathlib.Core.Path.{_≡_, sym, ap, _∙_}
 use mathlib.Core.Bool.{true, false}
 use lib.Dec.{ltb}
-use Rattle.fields.specs.declared.Need.{Need}
+use Rattle.wanted.specs.declared.Need.{Need}
 use Rattle.field_laws.specs.Written.{suits}
-use Rattle.protocol.specs.Permission.{insPermitted, leNeed, dataNeed, commandPermitted}
+use Rattle.protocol.specs.Permission.{insPermitted, dataNeed, commandPermitted}
 
 returns : tie.Need-returns
 unfolding commandPermitted

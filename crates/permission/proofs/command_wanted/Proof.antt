@@ -3,7 +3,7 @@
 use borrow.Author.Needs.{needs}
 use Rattle.permission.proofs.command_wanted.Statement.{statement}
 use Rattle.permission.proofs.command_wanted.Tie as tie
-use Rattle.fields.specs.declared.Second.the-variants.{Le}
+use Rattle.wanted.specs.declared.Second.the-variants.{Le}
 use Rattle.protocol.specs.Permission.{commandWanted}
 
 returns : tie.Need-returns

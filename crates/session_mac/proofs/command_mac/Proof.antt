@@ -5,7 +5,7 @@ use Rattle.session_mac.proofs.command_mac.Statement.{statement}
 use Rattle.session_mac.proofs.command_mac.Tie as tie
 use mathlib.Core.Path.{_≡_}
 use lib.ListN.{length}
-use Rattle.objects.specs.MacInput.{encodedHeader, commandMacInput}
+use Rattle.mac_input.specs.MacInput.{encodedHeader, commandMacInput}
 use Rattle.session_mac.proofs.MacInParts.{in-three-parts}
 
 returns : tie.Need-returns

@@ -5,7 +5,7 @@ use Rattle.session_mac.proofs.response_mac.Statement.{statement}
 use Rattle.session_mac.proofs.response_mac.Tie as tie
 use mathlib.Core.Path.{_≡_}
 use lib.ListN.{length}
-use Rattle.objects.specs.MacInput.{responseMacInput}
+use Rattle.mac_input.specs.MacInput.{responseMacInput}
 use Rattle.session_mac.proofs.MacInParts.{in-two-parts}
 
 returns : tie.Need-returns

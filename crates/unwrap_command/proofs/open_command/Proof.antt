@@ -14,10 +14,11 @@ use Rattle.octets.proofs.Tests.{outcome}
 use Rattle.compare.specs.Same.{same}
 use Rattle.fields.specs.Field.{ciphertextOf, macOf}
 use Rattle.field_laws.proofs.AcceptedRules.{conforms}
-use Rattle.session.specs.Session.{keyIn, commandTaken}
+use Rattle.stored_keys.specs.StoredKeys.{keyIn}
+use Rattle.transitions.specs.Transitions.{commandTaken}
 use Rattle.ciphers.specs.Aes.{aesCiphers, decrypt}
 use Rattle.protocol.specs.Permission.{commandWanted}
-use Rattle.protocol.specs.Command.{commandInput, headerRead, commandMac, commandAccepted}
+use Rattle.protocol.specs.Command.{commandInput, commandMac, commandAccepted}
 use Rattle.decryption.proofs.InMemory.{found-none, found-data}
 use Rattle.results.specs.Results.{commandResult}
 use Rattle.results.specs.declared.CommandAnswer.the-variants.{Accepted}

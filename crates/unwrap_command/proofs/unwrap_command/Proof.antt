@@ -3,7 +3,7 @@
 use borrow.Author.Needs.{needs}
 use Rattle.unwrap_command.proofs.unwrap_command.Statement.{statement}
 use Rattle.unwrap_command.proofs.unwrap_command.Tie as tie
-use mathlib.Core.Path.{_≡_, sym, ap, _∙_}
+use mathlib.Core.Path.{sym, ap, _∙_}
 use lib.ListN.{length}
 use Rattle.protocol.specs.Command.{CommandGiven}
 use Rattle.protocol.specs.Answer.{Out, buffer}

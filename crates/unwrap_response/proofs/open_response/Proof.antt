@@ -14,7 +14,8 @@ use Rattle.octets.proofs.Tests.{outcome}
 use Rattle.compare.specs.Same.{same}
 use Rattle.fields.specs.Field.{ciphertextOf, macOf}
 use Rattle.field_laws.proofs.AcceptedRules.{conforms}
-use Rattle.session.specs.Session.{keyIn, responseTaken}
+use Rattle.stored_keys.specs.StoredKeys.{keyIn}
+use Rattle.transitions.specs.Transitions.{responseTaken}
 use Rattle.ciphers.specs.Aes.{aesCiphers, decrypt}
 use Rattle.protocol.specs.Permission.{responseWanted}
 use Rattle.protocol.specs.Response.{responseMac, responseAccepted}

@@ -3,7 +3,7 @@
 use borrow.Author.Needs.{needs}
 use Rattle.unwrap_response.proofs.unwrap_response.Statement.{statement}
 use Rattle.unwrap_response.proofs.unwrap_response.Tie as tie
-use mathlib.Core.Path.{_≡_, sym, ap, _∙_}
+use mathlib.Core.Path.{sym, ap, _∙_}
 use lib.ListN.{length}
 use Rattle.validity.proofs.KeepsTheRules.{served-count}
 use Rattle.protocol.specs.Message.{Response}

@@ -6,7 +6,7 @@ use Rattle.validity.proofs.keys_end.Tie as tie
 use native.Mathlib.Omega.{arith}
 use lib.ListN.{drop}
 use Rattle.octets.proofs.Tests.{outcome}
-use Rattle.session.proofs.StoredKeys.{key-length-most}
+use Rattle.stored_keys.proofs.StoredKeys.{key-length-most}
 use Rattle.validity.specs.Valid.{allZero, keysEnd}
 
 key-ends-requires : tie.Need-key-ends-requires

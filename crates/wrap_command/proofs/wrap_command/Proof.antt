@@ -3,8 +3,7 @@
 use borrow.Author.Needs.{needs}
 use Rattle.wrap_command.proofs.wrap_command.Statement.{statement}
 use Rattle.wrap_command.proofs.wrap_command.Tie as tie
-use mathlib.Core.Path.{_≡_, sym, ap, _∙_}
-use native.Mathlib.Omega.{arith}
+use mathlib.Core.Path.{sym, ap, _∙_}
 use mir.Syntax.{w8}
 use mir.Val.{Fits}
 use lib.ListN.{length, getD}

@@ -3,13 +3,13 @@
 use borrow.Author.Needs.{needs}
 use Rattle.wrap_command.proofs.write_command.Statement.{statement}
 use Rattle.wrap_command.proofs.write_command.Tie as tie
-use mathlib.Core.Path.{_≡_, sym, ap, _∙_}
+use mathlib.Core.Path.{sym, ap, _∙_}
 use native.Mathlib.Nat.{zero-add}
 use native.Mathlib.Omega.{arith}
 use lib.ListN.{length, take}
 use Rattle.octets.proofs.Writing.{wrote-then, wrote-all, wrote-start}
-use Rattle.objects.specs.Objects.{macObject, commandField}
-use Rattle.session.specs.Session.{commandTaken}
+use Rattle.objects.specs.Objects.{commandField}
+use Rattle.transitions.specs.Transitions.{commandTaken}
 use Rattle.ciphers.specs.Aes.{aesCiphers}
 use Rattle.protocol.specs.Command.{commandInput, commandMac, commandWrapped}
 use Rattle.results.specs.declared.WrapAnswer.the-variants.{Wrapped}

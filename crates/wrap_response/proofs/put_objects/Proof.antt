@@ -8,7 +8,7 @@ use native.Mathlib.Nat.{zero-add}
 use native.Mathlib.Omega.{arith}
 use lib.ListN.{length}
 use Rattle.octets.proofs.Writing.{wrote-start}
-use Rattle.session.specs.Session.{keyIn}
+use Rattle.stored_keys.specs.StoredKeys.{keyIn}
 use Rattle.ciphers.specs.Aes.{encrypt, aesCiphers}
 use Rattle.protocol.specs.Response.{responseCiphertext}
 use Rattle.encryption.proofs.Encrypted.{length-encrypt}

@@ -3,8 +3,7 @@
 use borrow.Author.Needs.{needs}
 use Rattle.wrap_response.proofs.wrap_response.Statement.{statement}
 use Rattle.wrap_response.proofs.wrap_response.Tie as tie
-use mathlib.Core.Path.{_≡_, sym, ap, _∙_}
-use native.Mathlib.Omega.{arith}
+use mathlib.Core.Path.{sym, ap, _∙_}
 use mir.Syntax.{w8}
 use mir.Val.{Fits}
 use lib.ListN.{length, getD}

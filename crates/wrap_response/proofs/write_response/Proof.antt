@@ -3,13 +3,13 @@
 use borrow.Author.Needs.{needs}
 use Rattle.wrap_response.proofs.write_response.Statement.{statement}
 use Rattle.wrap_response.proofs.write_response.Tie as tie
-use mathlib.Core.Path.{_≡_, sym, ap, _∙_}
+use mathlib.Core.Path.{sym, ap, _∙_}
 use native.Mathlib.Nat.{zero-add}
 use native.Mathlib.Omega.{arith}
 use lib.ListN.{length, take}
 use Rattle.octets.proofs.Writing.{wrote-then, wrote-all, wrote-start}
-use Rattle.objects.specs.Objects.{macObject, responseField}
-use Rattle.session.specs.Session.{responseTaken}
+use Rattle.objects.specs.Objects.{responseField}
+use Rattle.transitions.specs.Transitions.{responseTaken}
 use Rattle.ciphers.specs.Aes.{aesCiphers}
 use Rattle.protocol.specs.Response.{responseMac, responseWrapped}
 use Rattle.results.specs.declared.WrapAnswer.the-variants.{Wrapped}

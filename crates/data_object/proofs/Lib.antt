@@ -1,0 +1,2 @@
+pub mod ObjectCases
+pub mod Inversion

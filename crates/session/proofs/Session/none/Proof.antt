@@ -1,0 +1,8 @@
+-- `Session::none` meets its contract: it is what `closed_at` gives.
+-- Assumes nothing.
+use borrow.Author.Needs.{needs}
+use Rattle.session.proofs.Session.none.Statement.{statement}
+use Rattle.session.proofs.Session.none.Tie as tie
+
+pub none-spec : {M : Type 1} → statement M
+none-spec = tie.close (tie.spec (λ c κs. search needs) (λ c. c .closed-at .ensures))
