@@ -17,9 +17,10 @@ returns : tie.Need-returns
 returns c =
     let a = c .before .before .before .before .before .args in
     let h = c .before .before .before .before .before .pre in
-    let f = cbcDecrypt (invCiph (a .size) (a .w .now)) (a .iv) in
-    (start-changed f (a .text .now) _ (a .n) (h .0) (h .1) (c .before .before .decrypt .ensures .1) (omega (arith, c .before .before .decrypt .kept, length-take-le (a .n) (a .text .now) (h .1))),
-    length-changed f (a .text .now) _ (a .n) (h .0) (h .1) (c .before .before .decrypt .ensures .1) (omega (arith, c .before .before .decrypt .kept, length-take-le (a .n) (a .text .now) (h .1))))
+    let f = cbcDecrypt (invCiph (a .size) (a .w .now)) (a .iv) in (
+      start-changed f (a .text .now) _ (a .n) (h .0) (h .1) (c .before .before .decrypt .ensures .1) (omega (arith, c .before .before .decrypt .kept, length-take-le (a .n) (a .text .now) (h .1))),
+      length-changed f (a .text .now) _ (a .n) (h .0) (h .1) (c .before .before .decrypt .ensures .1) (omega (arith, c .before .before .decrypt .kept, length-take-le (a .n) (a .text .now) (h .1))),
+    )
 
 pub decrypt-start-spec : {M : Type 1} → statement M
 decrypt-start-spec =
