@@ -1,3 +1,3 @@
 pub mod Checks
 pub mod KeysTyped
-pub mod Opened
+pub mod RefusedStage

@@ -1,13 +1,10 @@
 // The card unwraps a command (SP 800-73-4 Part 2, 4.2.2 to 4.2.4): the MAC is checked before anything is decrypted, the padding before anything is
 // written.
 use command_checks::unwrap_command_checks;
-use compare::mac_matches;
 use counter::command_counter;
-use decryption::decrypt_text;
 use fields::FieldRead;
 use fields::Objects;
 use fields::read_field;
-use padding::Unpadded;
 use permission::command_wanted;
 use refusal::Refusal;
 use results::Checked;
@@ -16,8 +13,9 @@ use results::CommandResult;
 use results::refused_command;
 use session::Session;
 use session_mac::command_mac;
-use session_mac::truncated;
 use transitions::command_taken;
+use verified_text::Verified;
+use verified_text::verified_text;
 ghost use mathlib.Core.Path.{_≡_};
 ghost use Prim.Native.Nat.{_<_};
 ghost use lib.ListN.{length};
@@ -41,29 +39,23 @@ fn open_command(
     ensures result { λ r. ⌜ r ≡ commandResult (concluded session (openCommand session ins p1 p2 (now (field .entry)) (length (now (out .entry))) objects)) ⌝ }
     ensures output { λ _. ⌜ now (out .exit) ≡ buffer payloadOf (now (out .entry)) (concluded session (openCommand session ins p1 p2 (now (field .entry)) (length (now (out .entry))) objects) .answer) ⌝ }
 {
-    let start = objects.ciphertext;
-    let needed = objects.ciphertext_len;
-    let covered = objects.mac_start;
-    if needed > out.len() {
-        return refused_command(session, Refusal::BufferTooSmall(needed));
-    }
     let suite = session.suite;
+    let sk_enc = session.sk_enc;
     let sk_mac = session.sk_mac;
     let mcv = session.command_mcv;
+    let covered = objects.mac_start;
     let full = command_mac(suite, sk_mac, mcv, ins, p1, p2, &field[..covered]);
-    if !mac_matches(field, objects.mac, truncated(full)) {
-        return refused_command(session, Refusal::BadMac);
-    }
-    let sk_enc = session.sk_enc;
     let counter = command_counter(session.count + 1);
-    let text = decrypt_text(suite, sk_enc, counter, field, start, needed, out);
-    let Unpadded::Data(n) = text else {
-        return refused_command(session, Refusal::BadPadding);
-    };
-    let next = command_taken(session, full);
-    CommandResult {
-        answer: CommandAnswer::Accepted(n, objects.second),
-        session: next,
+    let text = verified_text(suite, sk_enc, counter, full, field, objects, out);
+    match text {
+        Verified::Data(n) => {
+            let next = command_taken(session, full);
+            CommandResult {
+                answer: CommandAnswer::Accepted(n, objects.second),
+                session: next,
+            }
+        }
+        Verified::Refused(refusal) => refused_command(session, refusal),
     }
 }
 

@@ -1,23 +1,20 @@
--- What the stages behind the reading of a response answer, case by case.
+-- The stages of unwrapping a response: behind the reading, the reading, and the tests before it.
 -- Assumes nothing.
-use mathlib.Core.Path.{_≡_, ap}
-use mathlib.Core.Bool.{Bool, true, false}
-use mathlib.Core.Option.{Option, none, some}
-use Prim.Native.Nat.{ℕ, _<_, _≤_}
-use lib.ListN.{length, take}
+use mathlib.Core.Path.{_≡_, sym, ap}
+use Prim.Native.Nat.{ℕ}
+use lib.ListN.{length}
 use Rattle.octets.specs.Bytes.{Bytes}
-use Rattle.compare.specs.Same.{same}
 use Rattle.counter.specs.Counter.{responseCounter}
-use Rattle.fields.specs.Field.{readField, ciphertextOf, coveredOf, macOf}
+use Rattle.fields.specs.Field.{readField, coveredOf}
 use Rattle.fields.specs.declared.Objects.{Objects}
 use Rattle.data_object.specs.declared.Breach.{Breach}
 use Rattle.fields.specs.declared.FieldRead.{FieldRead}
 use Rattle.fields.specs.declared.FieldRead.the-variants.{Read, Malformed as BadField, Missing}
 use Rattle.refusal.specs.declared.Refusal.{Refusal}
-use Rattle.refusal.specs.declared.Refusal.the-variants.{BufferTooSmall, Malformed, MissingObject, BadMac, BadPadding}
+use Rattle.refusal.specs.declared.Refusal.the-variants.{Malformed, MissingObject}
 use Rattle.stored_keys.specs.StoredKeys.{keyIn}
 use Rattle.session.specs.declared.Session.{Session}
-use Rattle.ciphers.specs.Aes.{decrypt, aesCiphers}
+use Rattle.ciphers.specs.Aes.{aesCiphers}
 use Rattle.protocol.specs.Message.{Response}
 use Rattle.protocol.specs.Permission.{responseWanted}
 use Rattle.protocol.specs.Answer.{Answer, refused, gave, _and-then_, Outcome, notGiven, concluded, objectsOf}
@@ -25,32 +22,16 @@ use Rattle.protocol.specs.Response.{responseMac, responseAccepted, unwrapRespon
 use Rattle.results.specs.Results.{checked}
 use Rattle.results.specs.declared.Checked.the-variants.{Passed, Refused}
 use Rattle.results.proofs.Checks.{tests-passed, test-refused}
-use Rattle.results.proofs.Opened.{no-room, wrong-mac, wrong-padding, all-right}
+use Rattle.verified_text.specs.VerifiedText.{verifiedText}
+use Rattle.verified_text.proofs.Opened.{stages-first}
 use Rattle.unwrap_response.specs.UnwrapResponse.{status, unwrapResponse, readResponse, openResponse}
 
 module _ (s : Session) (sw1 sw2 : ℕ) (field : Bytes) (room : ℕ) (o : Objects) where
-  -- whether the MAC is right
-  abbrev pub right : Bool
-  right = same (macOf field o) (take 8 (responseMac aesCiphers s (coveredOf field o)))
-
-  abbrev pub text : Option Bytes
-  text = decrypt (keyIn (s .suite) (s .«sk_enc»)) (responseCounter (s .count)) (ciphertextOf field o)
-
-  pub at-room : room < o .«ciphertext_len» → openResponse s sw1 sw2 field room o ≡ refused (BufferTooSmall (o .«ciphertext_len»))
+  -- room, MAC and text come first, by the counter and the full MAC that are computed
+  pub text-first : (counter full : Bytes) → counter ≡ responseCounter (s .count) → full ≡ responseMac aesCiphers s (coveredOf field o)
+      → openResponse s sw1 sw2 field room o ≡ (verifiedText (keyIn (s .suite) (s .«sk_enc»)) counter full field room o and-then (λ d. gave (responseAccepted aesCiphers s (status sw1 sw2) field o d)))
   unfolding opens aesCiphers
-  at-room = no-room (o .«ciphertext_len») room right text (responseAccepted aesCiphers s (status sw1 sw2) field o)
-
-  pub at-mac : o .«ciphertext_len» ≤ room → right ≡ false → openResponse s sw1 sw2 field room o ≡ refused BadMac
-  unfolding opens aesCiphers
-  at-mac = wrong-mac (o .«ciphertext_len») room right text (responseAccepted aesCiphers s (status sw1 sw2) field o)
-
-  pub at-padding : o .«ciphertext_len» ≤ room → right ≡ true → text ≡ none → openResponse s sw1 sw2 field room o ≡ refused BadPadding
-  unfolding opens aesCiphers
-  at-padding = wrong-padding (o .«ciphertext_len») room right text (responseAccepted aesCiphers s (status sw1 sw2) field o)
-
-  pub at-end : o .«ciphertext_len» ≤ room → right ≡ true → (d : Bytes) → text ≡ some d → openResponse s sw1 sw2 field room o ≡ gave (responseAccepted aesCiphers s (status sw1 sw2) field o d)
-  unfolding opens aesCiphers
-  at-end = all-right (o .«ciphertext_len») room right text (responseAccepted aesCiphers s (status sw1 sw2) field o)
+  text-first counter full e f = rw (e, f) (sym (stages-first (keyIn (s .suite) (s .«sk_enc»)) (responseCounter (s .count)) (responseMac aesCiphers s (coveredOf field o)) field room o (λ d. gave (responseAccepted aesCiphers s (status sw1 sw2) field o d))))
 
 -- ---- the reading
 

@@ -1,12 +1,9 @@
 // The host unwraps a response (SP 800-73-4 Part 2, 4.2.2 and 4.2.5): the MAC is checked before anything is decrypted, the padding before anything is
 // written.
-use compare::mac_matches;
 use counter::response_counter;
-use decryption::decrypt_text;
 use fields::FieldRead;
 use fields::Objects;
 use fields::read_field;
-use padding::Unpadded;
 use permission::response_wanted;
 use refusal::Refusal;
 use response_checks::unwrap_response_checks;
@@ -16,8 +13,9 @@ use results::ResponseResult;
 use results::refused_response;
 use session::Session;
 use session_mac::response_mac;
-use session_mac::truncated;
 use transitions::response_taken;
+use verified_text::Verified;
+use verified_text::verified_text;
 ghost use mathlib.Core.Path.{_≡_};
 ghost use Prim.Native.Nat.{_≤_};
 ghost use lib.ListN.{length};
@@ -40,29 +38,23 @@ fn open_response(
     ensures result { λ r. ⌜ r ≡ responseResult (concluded session (openResponse session sw1 sw2 (now (field .entry)) (length (now (out .entry))) objects)) ⌝ }
     ensures output { λ _. ⌜ now (out .exit) ≡ buffer payloadOf (now (out .entry)) (concluded session (openResponse session sw1 sw2 (now (field .entry)) (length (now (out .entry))) objects) .answer) ⌝ }
 {
-    let start = objects.ciphertext;
-    let needed = objects.ciphertext_len;
-    let covered = objects.mac_start;
-    if needed > out.len() {
-        return refused_response(session, Refusal::BufferTooSmall(needed));
-    }
     let suite = session.suite;
+    let sk_enc = session.sk_enc;
     let sk_rmac = session.sk_rmac;
     let mcv = session.response_mcv;
+    let covered = objects.mac_start;
     let full = response_mac(suite, sk_rmac, mcv, &field[..covered]);
-    if !mac_matches(field, objects.mac, truncated(full)) {
-        return refused_response(session, Refusal::BadMac);
-    }
-    let sk_enc = session.sk_enc;
     let counter = response_counter(session.count);
-    let text = decrypt_text(suite, sk_enc, counter, field, start, needed, out);
-    let Unpadded::Data(n) = text else {
-        return refused_response(session, Refusal::BadPadding);
-    };
-    let next = response_taken(session, full);
-    ResponseResult {
-        answer: ResponseAnswer::Accepted(n, sw1, sw2),
-        session: next,
+    let text = verified_text(suite, sk_enc, counter, full, field, objects, out);
+    match text {
+        Verified::Data(n) => {
+            let next = response_taken(session, full);
+            ResponseResult {
+                answer: ResponseAnswer::Accepted(n, sw1, sw2),
+                session: next,
+            }
+        }
+        Verified::Refused(refusal) => refused_response(session, refusal),
     }
 }
 

@@ -3,14 +3,14 @@
 use borrow.Author.Needs.{needs}
 use Rattle.unwrap_command.proofs.read_command.Statement.{statement}
 use Rattle.unwrap_command.proofs.read_command.Tie as tie
-use mathlib.Core.Path.{refl, sym, ap, _∙_}
+use mathlib.Core.Path.{_≡_, sym, ap, _∙_}
 use lib.ListN.{length}
 use Rattle.fields.specs.Field.{readField}
 use Rattle.wanted.specs.declared.Wanted.{Wanted}
 use Rattle.protocol.specs.Command.{CommandGiven}
 use Rattle.protocol.specs.Answer.{Answer, Outcome, concluded, buffer}
 use Rattle.results.specs.Results.{commandResult}
-use Rattle.results.proofs.Opened.{when-refused}
+use Rattle.results.proofs.RefusedStage.{stage-refused}
 use Rattle.unwrap_command.specs.UnwrapCommand.{payloadOf}
 use Rattle.unwrap_command.proofs.Stages.{when-read, when-malformed, when-missing}
 
@@ -27,12 +27,12 @@ returns c =
 returns-2 : tie.Need-returns-2
 returns-2 c =
     let a = c .before .before .before .before .before .before .before .args in
-    when-refused (a .session) commandResult payloadOf (a .out .now) _ _ _ _ (when-malformed (a .session) (a .ins) (a .p1) (a .p2) (a .field .now) (length (a .out .now)) _ (sym (c .before .before .before .read-field .ensures ∙ ap (λ (w : Wanted). readField w (a .field .now)) (c .before .before .before .before .command-wanted .ensures)) ∙ c .before .enum-told .given .1)) (c .refused-command .ensures) refl
+    stage-refused (a .session) commandResult payloadOf (a .out .now) _ _ _ (when-malformed (a .session) (a .ins) (a .p1) (a .p2) (a .field .now) (length (a .out .now)) _ (sym (c .before .before .before .read-field .ensures ∙ ap (λ (w : Wanted). readField w (a .field .now)) (c .before .before .before .before .command-wanted .ensures)) ∙ c .before .enum-told .given .1)) (c .refused-command .ensures)
 
 returns-3 : tie.Need-returns-3
 returns-3 c =
     let a = c .before .before .before .before .before .before .before .args in
-    when-refused (a .session) commandResult payloadOf (a .out .now) _ _ _ _ (when-missing (a .session) (a .ins) (a .p1) (a .p2) (a .field .now) (length (a .out .now)) _ _ (sym (c .before .before .before .read-field .ensures ∙ ap (λ (w : Wanted). readField w (a .field .now)) (c .before .before .before .before .command-wanted .ensures)) ∙ c .before .enum-told2 .given .1)) (c .refused-command2 .ensures) refl
+    stage-refused (a .session) commandResult payloadOf (a .out .now) _ _ _ (when-missing (a .session) (a .ins) (a .p1) (a .p2) (a .field .now) (length (a .out .now)) _ _ (sym (c .before .before .before .read-field .ensures ∙ ap (λ (w : Wanted). readField w (a .field .now)) (c .before .before .before .before .command-wanted .ensures)) ∙ c .before .enum-told2 .given .1)) (c .refused-command2 .ensures)
 
 pub read-command-spec : {M : Type 1} → statement M
 read-command-spec =

@@ -3,14 +3,14 @@
 use borrow.Author.Needs.{needs}
 use Rattle.unwrap_response.proofs.read_response.Statement.{statement}
 use Rattle.unwrap_response.proofs.read_response.Tie as tie
-use mathlib.Core.Path.{refl, sym, ap, _∙_}
+use mathlib.Core.Path.{_≡_, sym, ap, _∙_}
 use lib.ListN.{length}
 use Rattle.fields.specs.Field.{readField}
 use Rattle.wanted.specs.declared.Wanted.{Wanted}
 use Rattle.protocol.specs.Message.{Response}
 use Rattle.protocol.specs.Answer.{Answer, Outcome, concluded, buffer}
 use Rattle.results.specs.Results.{responseResult}
-use Rattle.results.proofs.Opened.{when-refused}
+use Rattle.results.proofs.RefusedStage.{stage-refused}
 use Rattle.unwrap_response.specs.UnwrapResponse.{payloadOf}
 use Rattle.unwrap_response.proofs.Stages.{when-read, when-malformed, when-missing}
 
@@ -27,12 +27,12 @@ returns c =
 returns-2 : tie.Need-returns-2
 returns-2 c =
     let a = c .before .before .before .before .before .before .before .args in
-    when-refused (a .session) responseResult payloadOf (a .out .now) _ _ _ _ (when-malformed (a .session) (a .sw1) (a .sw2) (a .field .now) (length (a .out .now)) _ (sym (c .before .before .before .read-field .ensures ∙ ap (λ (w : Wanted). readField w (a .field .now)) (c .before .before .before .before .response-wanted .ensures)) ∙ c .before .enum-told .given .1)) (c .refused-response .ensures) refl
+    stage-refused (a .session) responseResult payloadOf (a .out .now) _ _ _ (when-malformed (a .session) (a .sw1) (a .sw2) (a .field .now) (length (a .out .now)) _ (sym (c .before .before .before .read-field .ensures ∙ ap (λ (w : Wanted). readField w (a .field .now)) (c .before .before .before .before .response-wanted .ensures)) ∙ c .before .enum-told .given .1)) (c .refused-response .ensures)
 
 returns-3 : tie.Need-returns-3
 returns-3 c =
     let a = c .before .before .before .before .before .before .before .args in
-    when-refused (a .session) responseResult payloadOf (a .out .now) _ _ _ _ (when-missing (a .session) (a .sw1) (a .sw2) (a .field .now) (length (a .out .now)) _ _ (sym (c .before .before .before .read-field .ensures ∙ ap (λ (w : Wanted). readField w (a .field .now)) (c .before .before .before .before .response-wanted .ensures)) ∙ c .before .enum-told2 .given .1)) (c .refused-response2 .ensures) refl
+    stage-refused (a .session) responseResult payloadOf (a .out .now) _ _ _ (when-missing (a .session) (a .sw1) (a .sw2) (a .field .now) (length (a .out .now)) _ _ (sym (c .before .before .before .read-field .ensures ∙ ap (λ (w : Wanted). readField w (a .field .now)) (c .before .before .before .before .response-wanted .ensures)) ∙ c .before .enum-told2 .given .1)) (c .refused-response2 .ensures)
 
 pub read-response-spec : {M : Type 1} → statement M
 read-response-spec =
