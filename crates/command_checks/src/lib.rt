@@ -13,6 +13,11 @@ ghost use mathlib.Core.Path.{_≡_};
 ghost use Rattle.results.specs.Results.{checked};
 ghost use Rattle.protocol.specs.Command.{wrapCommandChecks, unwrapCommandChecks};
 
+// The most data of a command, and the longest field that is read.
+const MAX_COMMAND_DATA: usize = 2047;
+
+const MAX_COMMAND_FIELD: usize = 2066;
+
 // Of a wrap: a command with n bytes of data, and a buffer of that size.
 pub fn wrap_command_checks(
     session: Session,
@@ -35,7 +40,7 @@ pub fn wrap_command_checks(
     if !command_permitted(ins, p1, p2, le, n) {
         return Checked::Refused(Refusal::NotPermitted);
     }
-    if n > 2047 {
+    if n > MAX_COMMAND_DATA {
         return Checked::Refused(Refusal::TooLong);
     }
     if count >= Session::COMMAND_LIMIT {
@@ -62,7 +67,7 @@ pub fn unwrap_command_checks(session: Session, ins: u8, n: usize) -> Checked
     if !ins_permitted(ins) {
         return Checked::Refused(Refusal::NotPermitted);
     }
-    if n > 2066 {
+    if n > MAX_COMMAND_FIELD {
         return Checked::Refused(Refusal::TooLong);
     }
     if count >= Session::COMMAND_LIMIT {

@@ -15,6 +15,11 @@ const GET_DATA: u8 = 0xCB;
 
 const GENERAL_AUTHENTICATE: u8 = 0x87;
 
+// The most encrypted data in a field that is read.
+const MAX_COMMAND_CIPHERTEXT: usize = 2048;
+
+const MAX_RESPONSE_CIPHERTEXT: usize = 16384;
+
 pub fn ins_permitted(ins: u8) -> bool
     ensures { λ r. ⌜ r ≡ insPermitted ins ⌝ }
 {
@@ -90,7 +95,7 @@ pub fn command_wanted(ins: u8) -> Wanted
     let le = le_need(ins);
     Wanted {
         data,
-        limit: 2048,
+        limit: MAX_COMMAND_CIPHERTEXT,
         second: Second::Le(le),
     }
 }
@@ -101,7 +106,7 @@ pub fn response_wanted(sw1: u8, sw2: u8) -> Wanted
 {
     Wanted {
         data: Need::May,
-        limit: 16384,
+        limit: MAX_RESPONSE_CIPHERTEXT,
         second: Second::Status(sw1, sw2),
     }
 }

@@ -12,6 +12,11 @@ ghost use mathlib.Core.Path.{_≡_};
 ghost use Rattle.results.specs.Results.{checked};
 ghost use Rattle.protocol.specs.Response.{wrapResponseChecks, unwrapResponseChecks};
 
+// The most data of a response, and the longest field that is read.
+const MAX_RESPONSE_DATA: usize = 16383;
+
+const MAX_RESPONSE_FIELD: usize = 16403;
+
 // Of a wrap: a response with n bytes of data, and a buffer of that size.
 pub fn wrap_response_checks(session: Session, sw1: u8, sw2: u8, n: usize, room: usize) -> Checked
     ensures { λ r. ⌜ r ≡ checked (wrapResponseChecks session (record { sw1 = sw1; sw2 = sw2 }) n room) ⌝ }
@@ -25,7 +30,7 @@ pub fn wrap_response_checks(session: Session, sw1: u8, sw2: u8, n: usize, room: 
     if !status_permitted(sw1, sw2) {
         return Checked::Refused(Refusal::NotPermitted);
     }
-    if n > 16383 {
+    if n > MAX_RESPONSE_DATA {
         return Checked::Refused(Refusal::TooLong);
     }
     let needed = response_length(n);
@@ -48,7 +53,7 @@ pub fn unwrap_response_checks(session: Session, sw1: u8, sw2: u8, n: usize) -> C
     if n == 0 {
         return Checked::Refused(Refusal::Unprotected(sw1, sw2));
     }
-    if n > 16403 {
+    if n > MAX_RESPONSE_FIELD {
         return Checked::Refused(Refusal::TooLong);
     }
     Checked::Passed
