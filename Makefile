@@ -1,44 +1,66 @@
-# make test    the format, the C comparison with OpenSSL, then every proof and program (rt ci)
+# make test    the format, the C programs beside OpenSSL, then every proof and program (rt ci)
 # make demo    the standards' examples, computed by the proved code
-# make bench   speed beside plain C and OpenSSL
+# make bench   speed beside plain C and other libraries
 #
-# Needs Rattle's rt on the PATH. gcc and OpenSSL's headers are installed where they are missing.
+# Needs Rattle's rt on the PATH. gcc and the libraries' headers are installed where they are missing.
 CFLAGS = -O3 -Wall -Wextra
-VECTORS = vectors_fips197 vectors_sp800_38a vectors_sp800_38b
+DEMOS = vectors_fips197 vectors_sp800_38a vectors_sp800_38b exchange
 
-test: format compare
+test: format compare exchange
 	@rt ci
 
 demo:
-	@rt check $(VECTORS)
-	@for program in $(VECTORS); do target/bin/$$program || exit 1; done
+	@rt check $(DEMOS)
+	@for program in $(DEMOS); do target/bin/$$program || exit 1; done
 
-bench: build/bench
+bench: build/bench build/bench_messages
 	@build/bench
+	@echo
+	@build/bench_messages
 
 compare: build/compare
 	@build/compare
+
+# The file that crates/exchange is held to is what the second program prints.
+exchange: build/exchange
+	@build/exchange | cmp - crates/exchange/stdout
 
 # tables.rt stands 16 to a row, as in the standard; the formatter would put each entry on its own line.
 format: build
 	@rt fmt --check >build/format 2>&1 || test -s build/format
 	@! grep -v '/crates/sbox/src/tables.rt is not in the layout$$' build/format
 
-build/compare build/bench: build/%: c/%.c c/plain_aes.c c/plain_aes.h c/primitives.h build/libprimitives.a
-	@gcc $(CFLAGS) -o $@ $< c/plain_aes.c build/libprimitives.a -lcrypto
+build/exchange: c/exchange.c packages build
+	@gcc -std=c99 $(CFLAGS) -o $@ $< -lcrypto
+
+build/compare: c/compare.c c/plain_aes.c c/plain_aes.h c/primitives.h build/libprimitives.a
+	@gcc $(CFLAGS) -o $@ $(filter %.c %.a,$^) -lcrypto
+
+build/bench: c/bench.c c/turns.c c/plain_aes.c c/turns.h c/plain_aes.h c/primitives.h build/libprimitives.a
+	@gcc $(CFLAGS) -o $@ $(filter %.c %.a,$^) -lcrypto
+
+build/bench_messages: c/bench_messages.c c/turns.c c/plain_aes.c c/ciphers.c c/plain_message.c c/turns.h \
+    c/plain_aes.h c/ciphers.h c/plain_message.h c/message_bench.h build/libbench_calls.a bench-packages
+	@gcc $(CFLAGS) -o $@ $(filter %.c %.a,$^) -lcrypto -lnettle -lgcrypt
 
 # rt knows what is already proved. The copy is kept because rt ci removes target/.
-build/libprimitives.a: packages build
-	@rt staticlib primitives
-	@cp target/staticlib/libprimitives.a $@
+build/lib%.a: packages build
+	@rt staticlib $*
+	@cp target/staticlib/lib$*.a $@
 
-# Installs what is missing.
+# Each installs what is missing.
 packages:
-	@printf '#include <stdio.h>\n#include <openssl/evp.h>\n' | gcc -E - >/dev/null 2>&1 || \
-	{ apt-get update && apt-get install -y --no-upgrade gcc libc6-dev libssl-dev; } || \
-	{ echo 'make: gcc and libssl-dev are missing and could not be installed: that takes root and a network' >&2; exit 1; }
+	@$(call installed,stdio.h openssl/evp.h,gcc libc6-dev libssl-dev)
+
+bench-packages: packages
+	@$(call installed,nettle/aes.h gcrypt.h,nettle-dev libgcrypt20-dev)
+
+# Headers, and the packages that have them.
+installed = printf '\#include <%s>\n' $(1) | gcc -E - >/dev/null 2>&1 || \
+    { apt-get update && apt-get install -y --no-upgrade $(2); } || \
+    { echo 'make: $(2): missing, and could not be installed: that takes root and a network' >&2; exit 1; }
 
 build:
 	@mkdir -p build
 
-.PHONY: test demo bench compare format packages
+.PHONY: test demo bench compare exchange format packages bench-packages

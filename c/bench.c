@@ -1,25 +1,17 @@
-/* Speed of the proved archive beside plain C and OpenSSL, in MB/s and as a ratio to plain C.
- *
- * OpenSSL looks at the processor once, when it is loaded, so each way of keeping instructions from it is a
- * process of its own: this program again, with OPENSSL_ia32cap set, which measures what it is asked for on
- * its standard input. Everything is measured in short turns, one implementation after the other, and the
- * best turn counts: other work on the machine then hits all of them alike.
+/* Speed of the proved archive beside plain C and OpenSSL, in MB/s and as a ratio to plain C. turns.h says how
+ * it is measured.
  */
 #include "plain_aes.h"
 #include "primitives.h"
+#include "turns.h"
 
 #include <openssl/core_names.h>
 #include <openssl/evp.h>
 #include <openssl/params.h>
 
 #include <stdio.h>
-#include <stdlib.h>
 #include <string.h>
-#include <time.h>
-#include <unistd.h>
 
-#define TURNS 20
-#define TURN_SECONDS 0.03
 #define DATA_LEN 16384
 
 enum implementation { PROVED, PLAIN, AES_NI, SSSE3, TABLES, IMPLEMENTATIONS };
@@ -32,28 +24,12 @@ static const char *const job_names[] = {"one block, key set-up", "CBC decrypt 16
 
 /* OPENSSL_ia32cap(3): bit 57 is AES-NI and 41 SSSE3, whose byte shuffle the vector-permute and the bit-sliced
  * AES need; in the second word bit 41 is VAES. */
-static const char *const capabilities[] = {
+static const char *const capabilities[IMPLEMENTATIONS] = {
     [SSSE3] = "~0x200000000000000:~0x20000000000",
     [TABLES] = "~0x200020000000000:~0x20000000000",
 };
 
 static uint8_t key[32], iv[16], mac[16], data[DATA_LEN];
-
-static double seconds(void)
-{
-    struct timespec t;
-
-    clock_gettime(CLOCK_PROCESS_CPUTIME_ID, &t);
-    return (double)t.tv_sec + 1e-9 * (double)t.tv_nsec;
-}
-
-static void must(int ok, const char *what)
-{
-    if (!ok) {
-        fprintf(stderr, "bench: %s failed\n", what);
-        exit(1);
-    }
-}
 
 static void run_proved(enum job job, size_t key_len)
 {
@@ -114,99 +90,45 @@ static void run_openssl(enum job job, size_t key_len)
     must(EVP_CipherUpdate(cipher_ctx, data, &len, data, cbc ? DATA_LEN : 16), "OpenSSL's AES");
 }
 
+static void run(struct request r)
+{
+    if (r.who == PROVED)
+        run_proved(r.job, r.key_len);
+    else if (r.who == PLAIN)
+        run_plain(r.job, r.key_len);
+    else
+        run_openssl(r.job, r.key_len);
+}
+
 /* MB/s of one turn. */
-static double turn(enum implementation who, enum job job, size_t key_len)
+static double speed(struct request r)
 {
-    size_t size = job == ONE_BLOCK ? 16 : DATA_LEN;
-    int batch = job == ONE_BLOCK ? 100 : 4;
-    double start = seconds(), spent, bytes = 0;
+    double size = r.job == ONE_BLOCK ? 16 : DATA_LEN;
 
-    do {
-        for (int i = 0; i < batch; i++)
-            if (who == PROVED)
-                run_proved(job, key_len);
-            else if (who == PLAIN)
-                run_plain(job, key_len);
-            else
-                run_openssl(job, key_len);
-        bytes += (double)size * batch;
-        spent = seconds() - start;
-    } while (spent < TURN_SECONDS);
-    return bytes / spent / 1e6;
-}
-
-/* ---- the processes that have an OpenSSL of their own */
-
-struct request {
-    enum job job;
-    size_t key_len;
-};
-
-static int ask[IMPLEMENTATIONS], answer[IMPLEMENTATIONS];
-
-static void start(enum implementation who)
-{
-    int in[2], out[2];
-    pid_t child;
-
-    must(pipe(in) == 0 && pipe(out) == 0, "pipe");
-    child = fork();
-    must(child >= 0, "fork");
-    if (child == 0) {
-        setenv("OPENSSL_ia32cap", capabilities[who], 1);
-        dup2(in[0], STDIN_FILENO);
-        dup2(out[1], STDOUT_FILENO);
-        close(in[1]), close(out[0]);
-        execl("/proc/self/exe", "bench", "serve", NULL);
-        must(0, "exec");
-    }
-    close(in[0]), close(out[1]);
-    ask[who] = in[1];
-    answer[who] = out[0];
-}
-
-/* Ends when the asking process closes its pipe. */
-static void serve(void)
-{
-    struct request r;
-
-    while (read(STDIN_FILENO, &r, sizeof r) == sizeof r) {
-        double speed = turn(AES_NI, r.job, r.key_len);
-
-        must(write(STDOUT_FILENO, &speed, sizeof speed) == sizeof speed, "write");
-    }
-}
-
-static double turn_of(enum implementation who, enum job job, size_t key_len)
-{
-    struct request r = {job, key_len};
-    double speed;
-
-    if (!capabilities[who])
-        return turn(who, job, key_len);
-    must(write(ask[who], &r, sizeof r) == sizeof r, "write");
-    must(read(answer[who], &speed, sizeof speed) == sizeof speed, "read");
-    return speed;
+    return size / seconds_per_call(run, r, r.job == ONE_BLOCK ? 100 : 4) / 1e6;
 }
 
 int main(int argc, char **argv)
 {
     static double best[JOBS][2][IMPLEMENTATIONS];
+    struct process processes[IMPLEMENTATIONS];
 
     if (argc > 1 && strcmp(argv[1], "serve") == 0) {
-        serve();
+        serve(speed);
         return 0;
     }
-    start(SSSE3);
-    start(TABLES);
+    for (int who = 0; who < IMPLEMENTATIONS; who++)
+        if (capabilities[who])
+            processes[who] = start("OPENSSL_ia32cap", capabilities[who]);
     for (int i = 0; i < TURNS; i++)
         for (int job = 0; job < JOBS; job++)
             for (int wide = 0; wide < 2; wide++)
                 for (int who = 0; who < IMPLEMENTATIONS; who++) {
-                    double speed = turn_of(who, job, wide ? 32 : 16);
+                    struct request r = {who, job, wide ? 32 : 16};
+                    double now = capabilities[who] ? ask(processes[who], r) : speed(r);
 
-                    if (speed > best[job][wide][who])
-                        best[job][wide][who] = speed;
+                    if (now > best[job][wide][who])
+                        best[job][wide][who] = now;
                 }
 
     printf("MB/s, the best of %d turns, and the ratio to plain C\n\n%30s", TURNS, "");

@@ -187,12 +187,13 @@ static void doubled(uint8_t b[16])
     b[15] = (uint8_t)(b[15] << 1) ^ r128;
 }
 
-/* SP 800-38B, 6.2. */
-void plain_cmac(const struct plain_aes_key *k, const uint8_t *message, size_t message_len, uint8_t mac[16])
+/* SP 800-38B, 6.2, where the chain of blocks stands at `start`. */
+static void finish_cmac(const struct plain_aes_key *k, const uint8_t start[16], const uint8_t *message, size_t left,
+                        uint8_t mac[16])
 {
-    uint8_t subkey[16] = {0}, chain[16] = {0};
-    size_t left = message_len;
+    uint8_t subkey[16] = {0}, chain[16];
 
+    memcpy(chain, start, 16);
     for (; left > 16; left -= 16, message += 16) {
         xor_block(chain, chain, message);
         plain_aes_encrypt(k, chain);
@@ -208,4 +209,21 @@ void plain_cmac(const struct plain_aes_key *k, const uint8_t *message, size_t me
     xor_block(chain, chain, subkey);
     plain_aes_encrypt(k, chain);
     memcpy(mac, chain, 16);
+}
+
+void plain_cmac(const struct plain_aes_key *k, const uint8_t *message, size_t message_len, uint8_t mac[16])
+{
+    static const uint8_t zeros[16];
+
+    finish_cmac(k, zeros, message, message_len, mac);
+}
+
+void plain_cmac_after(const struct plain_aes_key *k, const uint8_t first[16], const uint8_t *rest, size_t rest_len,
+                      uint8_t mac[16])
+{
+    uint8_t chain[16];
+
+    memcpy(chain, first, 16);
+    plain_aes_encrypt(k, chain);
+    finish_cmac(k, chain, rest, rest_len, mac);
 }

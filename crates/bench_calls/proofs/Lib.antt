@@ -1,0 +1,3 @@
+pub mod ShortText
+pub mod ShortAnswers
+pub mod Given

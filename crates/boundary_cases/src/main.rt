@@ -1,0 +1,36 @@
+// Either side of each line that document 01 draws, tried on the calls that wrap and unwrap. DERIVED.md has the reason of each line of the
+// file stdout.
+mod ample;
+mod ends;
+mod lengths;
+mod limit;
+mod replay;
+mod room;
+mod row;
+mod text;
+
+fn main() {
+    row::head();
+    lengths::commands();
+    lengths::responses();
+    limit::reading();
+    limit::host();
+    limit::card();
+    room::host_wraps();
+    room::card_unwraps();
+    room::card_wraps();
+    room::host_unwraps();
+    replay::responses();
+    replay::commands();
+    text::responses();
+    text::closed();
+    text::commands();
+}
+
+// The first n bytes, or all where there are fewer.
+fn first(bytes: &[u8], n: usize) -> &[u8] {
+    if n < bytes.len() {
+        return &bytes[..n];
+    }
+    bytes
+}
