@@ -1,5 +1,5 @@
 # make test    the format, the C programs beside OpenSSL, then every proof and program (rt ci)
-# make demo    the standards' examples, computed by the proved code
+# make demo    the exchange of a host and a card, and the standards' examples, computed by the proved code
 # make bench   speed beside plain C and other libraries
 #
 # Needs Rattle's rt on the PATH. gcc and the libraries' headers are installed where they are missing.
@@ -43,8 +43,9 @@ build/bench_messages: c/bench_messages.c c/turns.c c/plain_aes.c c/ciphers.c c/p
     c/plain_aes.h c/ciphers.h c/plain_message.h c/message_bench.h build/libbench_calls.a bench-packages
 	@gcc $(CFLAGS) -o $@ $(filter %.c %.a,$^) -lcrypto -lnettle -lgcrypt
 
-# rt knows what is already proved. The copy is kept because rt ci removes target/.
+# rt check proves on all processors, rt staticlib on one; rt knows what is already proved. The copy is kept because rt ci removes target/.
 build/lib%.a: packages build
+	@rt check $*
 	@rt staticlib $*
 	@cp target/staticlib/lib$*.a $@
 

@@ -18,10 +18,11 @@ use Rattle.cbc.specs.Cbc.{cbcEncrypt}
 use Rattle.cbc.proofs.RoundTrip.{length-cbc}
 use Rattle.cmac.proofs.WholeMessage.{length-cmac}
 use Rattle.objects.specs.Objects.{commandObjects}
-use Rattle.objects.specs.Lengths.{ciphertextLength, encryptedDataLength, commandLength}
-use Rattle.objects.proofs.FieldLengths.{data-most, length-commandField}
+use Rattle.field_lengths.specs.Lengths.{ciphertextLength, encryptedDataLength, commandLength}
+use Rattle.field_lengths.proofs.LengthBounds.{data-most}
+use Rattle.objects.proofs.FieldLengths.{length-commandField}
 use Rattle.encryption.proofs.Room.{ciphertext-fits}
-use Rattle.session.specs.Session.{keyIn}
+use Rattle.stored_keys.specs.StoredKeys.{keyIn}
 use Rattle.session.specs.declared.Session.{Session}
 use Rattle.ciphers.specs.Aes.{sizeOf, ciph, encrypt, aesCiphers}
 use Rattle.counter.specs.Counter.{commandCounter, responseCounter}
