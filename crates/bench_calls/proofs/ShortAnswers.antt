@@ -32,8 +32,10 @@ use Rattle.protocol.specs.Answer.{Out}
 use Rattle.protocol.specs.Command.{commandCiphertext, commandMac, commandWrapped}
 use Rattle.protocol.specs.Response.{responseAccepted}
 use Rattle.protocol.proofs.CallCases.{host-wraps, host-unwraps}
-use Rattle.wrap_command.specs.WrapCommand.{header, wrapCommand}
-use Rattle.unwrap_response.specs.UnwrapResponse.{status, unwrapResponse, payloadOf}
+use Rattle.protocol.specs.Message.{header}
+use Rattle.wrap_command.specs.WrapCommand.{wrapCommand}
+use Rattle.protocol.specs.Message.{status}
+use Rattle.unwrap_response.specs.UnwrapResponse.{unwrapResponse, payloadOf}
 use Rattle.bench_calls.specs.Calls.{lengthOf}
 use Rattle.bench_calls.proofs.ShortText.{text-short}
 

@@ -11,6 +11,7 @@ use turn::is_turn;
 use validity::counts_as_open;
 ghost use mathlib.Core.Path.{_≡_};
 ghost use Rattle.results.specs.Results.{checked};
+ghost use Rattle.protocol.specs.Message.{header};
 ghost use Rattle.protocol.specs.Command.{wrapCommandChecks, unwrapCommandChecks};
 
 // The most data of a command, and the longest field that is read.
@@ -28,7 +29,7 @@ pub fn wrap_command_checks(
     n: usize,
     room: usize,
 ) -> Checked
-    ensures { λ r. ⌜ r ≡ checked (wrapCommandChecks session (record { ins = ins; p1 = p1; p2 = p2; le = le }) n room) ⌝ }
+    ensures { λ r. ⌜ r ≡ checked (wrapCommandChecks session (header ins p1 p2 le) n room) ⌝ }
 {
     let count = session.count;
     if !counts_as_open(session) {

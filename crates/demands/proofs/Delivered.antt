@@ -18,7 +18,7 @@ use Rattle.protocol.specs.Command.{CommandGiven}
 use Rattle.protocol.specs.Transcript.{does}
 use Rattle.protocol.specs.HonestDelivery.{InStep, Keyed}
 use Rattle.protocol.proofs.Theorems.{demand2-commands, demand2-responses, demand2-openings}
-use Rattle.demands.specs.Calls.{hostKeys, wrapsCommand, unwrapsCommand, wrapsResponse, unwrapsResponse, session, command, response, held, next, answer}
+use Rattle.demands.specs.Calls.{hostKeys, wrapsCommand, unwrapsCommand, wrapsResponse, unwrapsResponse, session, command, response, bufferBefore, next, answer}
 use Rattle.demands.specs.HonestDelivery.{CommandCarried, DeliversCommands, ResponseCarried, DeliversResponses, OpensInStep}
 use Rattle.demands.proofs.Told.{outcome, told}
 
@@ -27,7 +27,7 @@ unfolding does
 delivers-commands w u inStep counted permitted short wrapFits unwrapFits =
     let h = session (wrapsCommand Host w) in
     let c = session (unwrapsCommand Card u) in
-    let d = demand2-commands h c (command w) (length (held (wrapsCommand Host w))) (length (held (unwrapsCommand Card u))) inStep (w .met .1 .1 .1) counted permitted short (w .met .1 .1 .0) wrapFits unwrapFits in
+    let d = demand2-commands h c (command w) (length (bufferBefore (wrapsCommand Host w))) (length (bufferBefore (unwrapsCommand Card u))) inStep (w .met .1 .1 .1) counted permitted short (w .met .1 .1 .0) wrapFits unwrapFits in
     let wrapped = sym (told (wrapsCommand Host w)) ∙ d .wraps in
     let unwrapped : CommandCarried w u (d .field) → outcome (unwrapsCommand Card u) ≡ record { answer = gave (record { payload = command w .payload; le = command w .header .le }); next = d .card } =
     λ k. sym (told (unwrapsCommand Card u)) ∙ rw (k .ins, k .p1, k .p2, k .whole) (d .unwraps) in
@@ -57,7 +57,7 @@ unfolding does
 delivers-responses w u inStep permitted short wrapFits unwrapFits =
     let h = session (unwrapsResponse Host u) in
     let c = session (wrapsResponse Card w) in
-    let d = demand2-responses h c (response w) (length (held (wrapsResponse Card w))) (length (held (unwrapsResponse Host u))) inStep (host-keyed h c inStep (w .met .1 .1 .1)) permitted short (w .met .1 .1 .0) wrapFits unwrapFits in
+    let d = demand2-responses h c (response w) (length (bufferBefore (wrapsResponse Card w))) (length (bufferBefore (unwrapsResponse Host u))) inStep (host-keyed h c inStep (w .met .1 .1 .1)) permitted short (w .met .1 .1 .0) wrapFits unwrapFits in
     let wrapped = sym (told (wrapsResponse Card w)) ∙ d .wraps in
     let unwrapped : ResponseCarried w u (d .field) → outcome (unwrapsResponse Host u) ≡ record { answer = gave (response w); next = d .host } =
     λ k. sym (told (unwrapsResponse Host u)) ∙ rw (k .sw1, k .sw2, k .whole) (d .unwraps) in
@@ -71,11 +71,10 @@ delivers-responses w u inStep permitted short wrapFits unwrapFits =
     }
 
 pub opens-in-step : OpensInStep
-opens-in-step h c hostOpened cardOpened suite same =
+opens-in-step h c hostOpened cardOpened same =
     let K = hostKeys h in
     let host : opening Host (h .args .0) K ≡ h .result = sym (h .met .0) in
-    let card : opening Card (h .args .0) K ≡ c .result =
-    ap (λ (n : ℕ). opening Card n K) (sym suite) ∙ ap (opening Card (c .args .0)) (sym same) ∙ sym (c .met .0) in
-    let d = demand2-openings (h .args .0) K (h .met .1) (ap (λ (o : Opened). o .answer) host ∙ hostOpened) (ap (λ (o : Opened). o .answer) card ∙ cardOpened) .0 in
+    let card : opening Card (c .args .0) K ≡ c .result = ap (opening Card (c .args .0)) (sym same) ∙ sym (c .met .0) in
+    let d = demand2-openings (h .args .0) (c .args .0) K (h .met .1) (ap (λ (o : Opened). o .answer) host ∙ hostOpened) (ap (λ (o : Opened). o .answer) card ∙ cardOpened) .0 in
     subst (λ (o : Opened). InStep Ready (o .session) (c .result .session)) host
     (subst (λ (o : Opened). InStep Ready (opening Host (h .args .0) K .session) (o .session)) card d)

@@ -5,6 +5,7 @@ use mathlib.Core.Bool.{Bool, true, false}
 use mathlib.Core.List.{[], _∷_, List·Memᴰ, List·Memᴰ·head, List·Memᴰ·tail}
 use Prim.Native.Nat.{ℕ}
 use native.Mathlib.Omega.{arith}
+use Rattle.octets.specs.Bytes.{Bytes}
 use Rattle.octets.specs.Choice.{if_then_else_}
 use Rattle.refusal.specs.Refusal.{number}
 use Rattle.refusal.specs.declared.Refusal.{Refusal}
@@ -21,27 +22,58 @@ use Rattle.session.specs.declared.Opening.the-variants.{Opened as Done, Refused
 use Rattle.session.specs.declared.Opened.{Opened}
 use Rattle.session.specs.declared.Session.{Session}
 use Rattle.ciphers.specs.Aes.{aesCiphers}
-use Rattle.protocol.specs.Answer.{Out, buffer}
+use Rattle.protocol.specs.Answer.{refused, gave, Out, buffer}
 use Rattle.protocol.specs.RefusalKeeps.{writes, IsClosed}
 use Rattle.protocol.specs.Transcript.{Gives, does}
 use Rattle.protocol.proofs.Theorems.{demand1}
-use Rattle.demands.specs.Calls.{hostKeys, cardKeys, session, held, call, next}
+use Rattle.results.specs.Values.{refusalValues, wrapValues, commandValues, responseValues}
+use Rattle.results.specs.declared.WrapAnswer.{WrapAnswer}
+use Rattle.results.specs.declared.WrapAnswer.the-variants.{Wrapped, Refused as NotWrapped}
+use Rattle.results.specs.declared.CommandAnswer.{CommandAnswer}
+use Rattle.results.specs.declared.CommandAnswer.the-variants.{Accepted as CommandAccepted, Refused as CommandRefused}
+use Rattle.results.specs.declared.ResponseAnswer.{ResponseAnswer}
+use Rattle.results.specs.declared.ResponseAnswer.the-variants.{Accepted as ResponseAccepted, Refused as ResponseRefused}
+use Rattle.demands.specs.Calls.{hostKeys, cardKeys, Event, wrapsCommand, unwrapsCommand, wrapsResponse, unwrapsResponse, closes, session, bufferBefore, call, next, values, wrapGave, commandGave, responseGave, answer}
 use Rattle.demands.specs.RefusalKeeps.{RefusalKeeps, RestKeeps, HostOpeningRefuses, CardOpeningRefuses}
 use Rattle.demands.proofs.Told.{told, output-told}
+
+-- the number and values of a refusal
+not-given : {A : Type 0} {a : A} {r : Refusal} {P : Type 0} → gave a ≡ refused r → P
+not-given e = let z : _≡_ {A = ℕ} 0 1 = cc in let o : ⊥ = omega arith in absurd o
+
+wrap-values : (a : WrapAnswer) (out : Bytes) (r : Refusal) → wrapGave a out ≡ refused r → wrapValues a ≡ refusalValues r
+wrap-values (Wrapped n) out r e = not-given e
+wrap-values (NotWrapped q) out r e = let s : q ≡ r = cc in ap refusalValues s
+
+command-values : (a : CommandAnswer) (out : Bytes) (r : Refusal) → commandGave a out ≡ refused r → commandValues a ≡ refusalValues r
+command-values (CommandAccepted n le) out r e = not-given e
+command-values (CommandRefused q) out r e = let s : q ≡ r = cc in ap refusalValues s
+
+response-values : (a : ResponseAnswer) (out : Bytes) (r : Refusal) → responseGave a out ≡ refused r → responseValues a ≡ refusalValues r
+response-values (ResponseAccepted n sw1 sw2) out r e = not-given e
+response-values (ResponseRefused q) out r e = let s : q ≡ r = cc in ap refusalValues s
+
+values-told : (e : Event) (r : Refusal) → answer e ≡ refused r → values e ≡ refusalValues r
+values-told (wrapsCommand side c) r e = wrap-values (c .result .answer) _ r e
+values-told (unwrapsCommand side c) r e = command-values (c .result .answer) _ r e
+values-told (wrapsResponse side c) r e = wrap-values (c .result .answer) _ r e
+values-told (unwrapsResponse side c) r e = response-values (c .result .answer) _ r e
+values-told (closes side c) r e = not-given e
 
 pub refusal-keeps : RefusalKeeps
 refusal-keeps e r h =
     let left : next e ≡ does aesCiphers (session e) (call e) .next = ap (λ (o : Out (Gives (call e))). o .next) (sym (told e)) in
-    let k = demand1 (session e) (call e) r (held e) (ap (λ (o : Out (Gives (call e))). o .answer) (told e) ∙ h) in
+    let k = demand1 (session e) (call e) r (bufferBefore e) (ap (λ (o : Out (Gives (call e))). o .answer) (told e) ∙ h) in
     record {
       in-order = k .in-order;
+      told = values-told e r h;
       output = output-told e ∙ k .output;
       closed = λ c. subst (λ (s : Session). IsClosed (session e) s) (sym left) (k .closes c);
       stays = λ c. left ∙ k .stays c;
     }
 
 pub rest-keeps : RestKeeps
-rest-keeps e = output-told e ∙ ap (λ (o : Out (Gives (call e))). buffer (writes (call e)) (held e) (o .answer)) (told e)
+rest-keeps e = output-told e ∙ ap (λ (o : Out (Gives (call e))). buffer (writes (call e)) (bufferBefore e) (o .answer)) (told e)
 
 -- ---- openings
 

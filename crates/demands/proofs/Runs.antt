@@ -78,6 +78,13 @@ module _ (K : Keys) where
   excepted-is st (e ∷ es) t (inr x) =
       inr (excepted-is (after K st e) es (t .1) (subst (λ (s : State). ExceptedRun aesCiphers K s (calls es)) (step-is st e (t .0)) x))
 
+  pub excepted-back : (st : State) (es : List Event) → Trace K st es → Excepted K st es → ExceptedRun aesCiphers K st (calls es)
+  excepted-back st [] t x = x
+  excepted-back st (e ∷ es) t (inl b) =
+      inl (subst (λ (o : Out (Gives (call e))). BreaksIn aesCiphers K (st .transcript) (call e) (o .answer)) (sym (given st e (t .0))) b)
+  excepted-back st (e ∷ es) t (inr x) =
+      inr (subst (λ (s : State). ExceptedRun aesCiphers K s (calls es)) (sym (step-is st e (t .0))) (excepted-back (after K st e) es (t .1) x))
+
   of-run : (st : State) (es : List Event) → Trace K st es
       → Agrees aesCiphers K (run aesCiphers K st (calls es) .transcript) ⊎ ExceptedRun aesCiphers K st (calls es)
       → Agrees aesCiphers K (ran K st es .transcript) ⊎ Excepted K st es

@@ -2,10 +2,10 @@
 -- Assumes nothing.
 use Rattle.demands.specs.RefusalKeeps.{RefusalKeeps, RestKeeps, HostOpeningRefuses, CardOpeningRefuses}
 use Rattle.demands.specs.HonestDelivery.{DeliversCommands, DeliversResponses, OpensInStep}
-use Rattle.demands.specs.Agreement.{Agreement}
+use Rattle.demands.specs.Agreement.{Agreement, ExceptionNoWider}
 use Rattle.demands.proofs.RefusalKept.{refusal-keeps, rest-keeps, host-opening-refuses, card-opening-refuses}
 use Rattle.demands.proofs.Delivered.{delivers-commands, delivers-responses, opens-in-step}
-use Rattle.demands.proofs.Runs.{agreement}
+use Rattle.demands.proofs.Runs.{agreement, excepted-back}
 
 -- demand 1: the five calls, and the openings
 pub demand1 : RefusalKeeps
@@ -33,3 +33,6 @@ demand2-openings = opens-in-step
 -- demand 3
 pub demand3 : Agreement
 demand3 = agreement
+
+pub demand3-exception : ExceptionNoWider
+demand3-exception = excepted-back

@@ -15,7 +15,7 @@ use Rattle.results.specs.Results.{wrapAnswer, wrapResult, commandAnswer, comman
 use Rattle.results.specs.declared.WrapResult.{WrapResult}
 use Rattle.results.specs.declared.CommandResult.{CommandResult}
 use Rattle.results.specs.declared.ResponseResult.{ResponseResult}
-use Rattle.demands.specs.Calls.{Event, wrapsCommand, unwrapsCommand, wrapsResponse, unwrapsResponse, closes, session, held, holds, call, next, wrapGave, commandGave, responseGave, answer}
+use Rattle.demands.specs.Calls.{Event, wrapsCommand, unwrapsCommand, wrapsResponse, unwrapsResponse, closes, session, bufferBefore, bufferAfter, call, next, wrapGave, commandGave, responseGave, answer}
 
 -- what was written first is at the start
 start : (xs ys : Bytes) → take (length ys) (over xs ys) ≡ ys
@@ -58,15 +58,15 @@ outcome e = record { answer = answer e; next = next e }
 
 pub told : (e : Event) → does aesCiphers (session e) (call e) ≡ outcome e
 unfolding does
-told (wrapsCommand side c) = wrap-told _ (c .result) (held (wrapsCommand side c)) (holds (wrapsCommand side c)) (c .met .0) (c .met .1 .0)
-told (unwrapsCommand side c) = command-told _ (c .result) (held (unwrapsCommand side c)) (holds (unwrapsCommand side c)) (c .met .0) (c .met .1)
-told (wrapsResponse side c) = wrap-told _ (c .result) (held (wrapsResponse side c)) (holds (wrapsResponse side c)) (c .met .0) (c .met .1 .0)
-told (unwrapsResponse side c) = response-told _ (c .result) (held (unwrapsResponse side c)) (holds (unwrapsResponse side c)) (c .met .0) (c .met .1)
+told (wrapsCommand side c) = wrap-told _ (c .result) (bufferBefore (wrapsCommand side c)) (bufferAfter (wrapsCommand side c)) (c .met .0) (c .met .1 .0)
+told (unwrapsCommand side c) = command-told _ (c .result) (bufferBefore (unwrapsCommand side c)) (bufferAfter (unwrapsCommand side c)) (c .met .0) (c .met .1)
+told (wrapsResponse side c) = wrap-told _ (c .result) (bufferBefore (wrapsResponse side c)) (bufferAfter (wrapsResponse side c)) (c .met .0) (c .met .1 .0)
+told (unwrapsResponse side c) = response-told _ (c .result) (bufferBefore (unwrapsResponse side c)) (bufferAfter (unwrapsResponse side c)) (c .met .0) (c .met .1)
 told (closes side c) = λ i. record { answer = gave tt; next = sym (c .met) i }
 
 -- ---- the buffer
 
-pub output-told : (e : Event) → holds e ≡ buffer (writes (call e)) (held e) (does aesCiphers (session e) (call e) .answer)
+pub output-told : (e : Event) → bufferAfter e ≡ buffer (writes (call e)) (bufferBefore e) (does aesCiphers (session e) (call e) .answer)
 unfolding does buffer over
 output-told (wrapsCommand side c) = c .met .1 .0
 output-told (unwrapsCommand side c) = c .met .1

@@ -8,14 +8,14 @@
 -- Assumes nothing.
 use mathlib.Core.Path.{_≡_}
 use mathlib.Core.Logic.{_⊎_}
-use mathlib.Core.List.{List, [], _∷_}
+use mathlib.Core.List.{List, [], _∷_, map}
 use Prim.Native.Nat.{ℕ}
 use lib.ListN.{take}
 use Rattle.stored_keys.specs.StoredKeys.{Keys}
 use Rattle.session.specs.declared.Opening.the-variants.{Opened as Done}
 use Rattle.ciphers.specs.Aes.{aesCiphers}
 use Rattle.protocol.specs.Transcript.{State, sessionAt, moved, entered, start}
-use Rattle.protocol.specs.Agreement.{Agrees, BreaksIn}
+use Rattle.protocol.specs.Agreement.{Agrees, BreaksIn, Excepted as ExceptedRun}
 use Rattle.demands.specs.Calls.{OpensHost, OpensCard, hostKeys, cardKeys, Event, end, session, call, next, answer}
 
 module _ (K : Keys) where
@@ -36,6 +36,11 @@ module _ (K : Keys) where
   abbrev pub Excepted : State → List Event → Type 0
   Excepted st [] = ⊥
   Excepted st (e ∷ es) = BreaksIn aesCiphers K (st .transcript) (call e) (answer e) ⊎ Excepted (after st e) es
+
+-- this exception is no wider than that of the definitions, which computed runs hold to what it should be (protocol, proofs/Examples)
+abbrev pub ExceptionNoWider : Type 0
+ExceptionNoWider =
+    (K : Keys) (st : State) (calls : List Event) → Trace K st calls → Excepted K st calls → ExceptedRun aesCiphers K st (map call calls)
 
 abbrev pub Agreement : Type 0
 Agreement =

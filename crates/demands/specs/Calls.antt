@@ -1,5 +1,6 @@
 -- Calls that ran. Each is a function's arguments, its result and what its references hold at exit, of which the function's contract holds
 -- (`Learnt`, which Rattle generates from the contract and proves of the code). Assumes nothing.
+use mathlib.Core.Bool.{false}
 use mathlib.Core.List.{[]}
 use lib.ListN.{length, take}
 use contract.Lifetimes.{Lfts}
@@ -29,6 +30,7 @@ use Rattle.protocol.specs.Message.{Command, Response}
 use Rattle.protocol.specs.Answer.{Answer, refused, gave}
 use Rattle.protocol.specs.Command.{CommandGiven}
 use Rattle.protocol.specs.Transcript.{Call, wrapCommand, unwrapCommand, wrapResponse, unwrapResponse, close, Gives}
+use Rattle.results.specs.Values.{Values, wrapValues, commandValues, responseValues}
 use Rattle.results.specs.declared.WrapAnswer.{WrapAnswer}
 use Rattle.results.specs.declared.WrapAnswer.the-variants.{Wrapped, Refused as NotWrapped}
 use Rattle.results.specs.declared.WrapResult.{WrapResult}
@@ -142,28 +144,28 @@ response c =
     record { header = record { sw1 = c .args .1 .0; sw2 = c .args .1 .1 .0 }; payload = now (c .args .1 .1 .1 .0) }
 
 -- the caller's buffer, before and after
-abbrev pub held : Event → Bytes
-held (wrapsCommand side c) = now (c .args .1 .1 .1 .1 .1 .1 .0)
-held (unwrapsCommand side c) = now (c .args .1 .1 .1 .1 .1 .0)
-held (wrapsResponse side c) = now (c .args .1 .1 .1 .1 .0)
-held (unwrapsResponse side c) = now (c .args .1 .1 .1 .1 .0)
-held (closes side c) = []
+abbrev pub bufferBefore : Event → Bytes
+bufferBefore (wrapsCommand side c) = now (c .args .1 .1 .1 .1 .1 .1 .0)
+bufferBefore (unwrapsCommand side c) = now (c .args .1 .1 .1 .1 .1 .0)
+bufferBefore (wrapsResponse side c) = now (c .args .1 .1 .1 .1 .0)
+bufferBefore (unwrapsResponse side c) = now (c .args .1 .1 .1 .1 .0)
+bufferBefore (closes side c) = []
 
-abbrev pub holds : Event → Bytes
-holds (wrapsCommand side c) = now (c .exit .1 .1 .1 .1 .1 .1 .0)
-holds (unwrapsCommand side c) = now (c .exit .1 .1 .1 .1 .1 .0)
-holds (wrapsResponse side c) = now (c .exit .1 .1 .1 .1 .0)
-holds (unwrapsResponse side c) = now (c .exit .1 .1 .1 .1 .0)
-holds (closes side c) = []
+abbrev pub bufferAfter : Event → Bytes
+bufferAfter (wrapsCommand side c) = now (c .exit .1 .1 .1 .1 .1 .1 .0)
+bufferAfter (unwrapsCommand side c) = now (c .exit .1 .1 .1 .1 .1 .0)
+bufferAfter (wrapsResponse side c) = now (c .exit .1 .1 .1 .1 .0)
+bufferAfter (unwrapsResponse side c) = now (c .exit .1 .1 .1 .1 .0)
+bufferAfter (closes side c) = []
 
 -- the call as the transcript has it: every argument but the session
 abbrev pub call : Event → Call
-call (wrapsCommand side c) = wrapCommand side (command c) (length (held (wrapsCommand side c)))
+call (wrapsCommand side c) = wrapCommand side (command c) (length (bufferBefore (wrapsCommand side c)))
 call (unwrapsCommand side c) =
-    unwrapCommand side (c .args .1 .0) (c .args .1 .1 .0) (c .args .1 .1 .1 .0) (now (c .args .1 .1 .1 .1 .0)) (length (held (unwrapsCommand side c)))
-call (wrapsResponse side c) = wrapResponse side (response c) (length (held (wrapsResponse side c)))
+    unwrapCommand side (c .args .1 .0) (c .args .1 .1 .0) (c .args .1 .1 .1 .0) (now (c .args .1 .1 .1 .1 .0)) (length (bufferBefore (unwrapsCommand side c)))
+call (wrapsResponse side c) = wrapResponse side (response c) (length (bufferBefore (wrapsResponse side c)))
 call (unwrapsResponse side c) =
-    unwrapResponse side (record { sw1 = c .args .1 .0; sw2 = c .args .1 .1 .0 }) (now (c .args .1 .1 .1 .0)) (length (held (unwrapsResponse side c)))
+    unwrapResponse side (record { sw1 = c .args .1 .0; sw2 = c .args .1 .1 .0 }) (now (c .args .1 .1 .1 .0)) (length (bufferBefore (unwrapsResponse side c)))
 call (closes side c) = close side
 
 -- ---- its result
@@ -189,9 +191,17 @@ abbrev pub responseGave : ResponseAnswer → Bytes → Answer Response
 responseGave (ResponseAccepted n sw1 sw2) out = gave (record { header = record { sw1 = sw1; sw2 = sw2 }; payload = take n out })
 responseGave (ResponseRefused r) out = refused r
 
+-- its number and values, as document 01 counts them; a closing always succeeds
+abbrev pub values : Event → Values
+values (wrapsCommand side c) = wrapValues (c .result .answer)
+values (unwrapsCommand side c) = commandValues (c .result .answer)
+values (wrapsResponse side c) = wrapValues (c .result .answer)
+values (unwrapsResponse side c) = responseValues (c .result .answer)
+values (closes side c) = record { number = 0; len = 0; status = 0; le = false }
+
 abbrev pub answer : (e : Event) → Answer (Gives (call e))
-answer (wrapsCommand side c) = wrapGave (c .result .answer) (holds (wrapsCommand side c))
-answer (unwrapsCommand side c) = commandGave (c .result .answer) (holds (unwrapsCommand side c))
-answer (wrapsResponse side c) = wrapGave (c .result .answer) (holds (wrapsResponse side c))
-answer (unwrapsResponse side c) = responseGave (c .result .answer) (holds (unwrapsResponse side c))
+answer (wrapsCommand side c) = wrapGave (c .result .answer) (bufferAfter (wrapsCommand side c))
+answer (unwrapsCommand side c) = commandGave (c .result .answer) (bufferAfter (unwrapsCommand side c))
+answer (wrapsResponse side c) = wrapGave (c .result .answer) (bufferAfter (wrapsResponse side c))
+answer (unwrapsResponse side c) = responseGave (c .result .answer) (bufferAfter (unwrapsResponse side c))
 answer (closes side c) = gave tt

@@ -14,7 +14,7 @@ use Rattle.protocol.specs.Message.{maxCommandData, maxResponseData, commandLimi
 use Rattle.protocol.specs.Permission.{commandPermitted, statusPermitted}
 use Rattle.protocol.specs.Answer.{gave}
 use Rattle.protocol.specs.HonestDelivery.{InStep}
-use Rattle.demands.specs.Calls.{OpensHost, OpensCard, hostKeys, cardKeys, WrapsCommand, UnwrapsCommand, WrapsResponse, UnwrapsResponse, wrapsCommand, unwrapsCommand, wrapsResponse, unwrapsResponse, session, command, response, held, next, answer}
+use Rattle.demands.specs.Calls.{OpensHost, OpensCard, hostKeys, cardKeys, WrapsCommand, UnwrapsCommand, WrapsResponse, UnwrapsResponse, wrapsCommand, unwrapsCommand, wrapsResponse, unwrapsResponse, session, command, response, bufferBefore, next, answer}
 
 -- ---- a command, from the host to the card
 
@@ -37,8 +37,8 @@ DeliversCommands =
     (w : WrapsCommand) (u : UnwrapsCommand)
     → InStep Ready (session (wrapsCommand Host w)) (session (unwrapsCommand Card u)) → session (wrapsCommand Host w) .count < commandLimit
     → commandPermitted (command w .header) (length (command w .payload)) ≡ true → length (command w .payload) ≤ maxCommandData
-    → commandLength (length (command w .payload)) (command w .header .le) ≤ length (held (wrapsCommand Host w))
-    → ciphertextLength (length (command w .payload)) ≤ length (held (unwrapsCommand Card u))
+    → commandLength (length (command w .payload)) (command w .header .le) ≤ length (bufferBefore (wrapsCommand Host w))
+    → ciphertextLength (length (command w .payload)) ≤ length (bufferBefore (unwrapsCommand Card u))
     → CommandDelivered w u
 
 -- ---- a response, from the card to the host
@@ -59,13 +59,13 @@ DeliversResponses =
     (w : WrapsResponse) (u : UnwrapsResponse)
     → InStep Pending (session (unwrapsResponse Host u)) (session (wrapsResponse Card w))
     → statusPermitted (response w .header) ≡ true → length (response w .payload) ≤ maxResponseData
-    → responseLength (length (response w .payload)) ≤ length (held (wrapsResponse Card w))
-    → ciphertextLength (length (response w .payload)) ≤ length (held (unwrapsResponse Host u))
+    → responseLength (length (response w .payload)) ≤ length (bufferBefore (wrapsResponse Card w))
+    → ciphertextLength (length (response w .payload)) ≤ length (bufferBefore (unwrapsResponse Host u))
     → ResponseDelivered w u
 
--- ---- it begins: two openings with the same suite and keys are in step
+-- ---- it begins: two openings with the same keys are in step
 
 abbrev pub OpensInStep : Type 0
 OpensInStep =
     (h : OpensHost) (c : OpensCard) → h .result .answer ≡ Done → c .result .answer ≡ Done
-    → c .args .0 ≡ h .args .0 → cardKeys c ≡ hostKeys h → InStep Ready (h .result .session) (c .result .session)
+    → cardKeys c ≡ hostKeys h → InStep Ready (h .result .session) (c .result .session)

@@ -11,11 +11,13 @@ use Rattle.session.specs.declared.Side.the-variants.{Host, Card}
 use Rattle.session.specs.declared.Opening.the-variants.{Refused}
 use Rattle.protocol.specs.Answer.{refused, buffer}
 use Rattle.protocol.specs.RefusalKeeps.{order, writes, IsClosed}
-use Rattle.demands.specs.Calls.{OpensHost, OpensCard, Event, session, held, holds, call, next, answer}
+use Rattle.results.specs.Values.{refusalValues}
+use Rattle.demands.specs.Calls.{OpensHost, OpensCard, Event, session, bufferBefore, bufferAfter, call, next, values, answer}
 
 pub record Keeps (e : Event) (r : Refusal) : Type 0 where
   pub in-order : List·Memᴰ (number r) (order (call e))
-  pub output : holds e ≡ held e
+  pub told : values e ≡ refusalValues r
+  pub output : bufferAfter e ≡ bufferBefore e
   pub closed : (number r ≡ 9) ⊎ (number r ≡ 10) → IsClosed (session e) (next e)
   pub stays : ((number r ≡ 9) ⊎ (number r ≡ 10) → ⊥) → next e ≡ session e
 
@@ -25,7 +27,7 @@ RefusalKeeps = (e : Event) (r : Refusal) → answer e ≡ refused r → Keeps e 
 
 -- document 01: "An answer that isn't a refusal leaves a lent output's bytes past what it writes as they were."
 abbrev pub RestKeeps : Type 0
-RestKeeps = (e : Event) → holds e ≡ buffer (writes (call e)) (held e) (answer e)
+RestKeeps = (e : Event) → bufferAfter e ≡ buffer (writes (call e)) (bufferBefore e) (answer e)
 
 -- openings lend no output; a refused one gives no session
 abbrev pub HostOpeningRefuses : Type 0

@@ -5,6 +5,7 @@ use wanted::Wanted;
 ghost use mathlib.Core.Path.{_≡_};
 ghost use Prim.Native.Nat.{_<_};
 ghost use Rattle.field_laws.specs.Written.{suits};
+ghost use Rattle.protocol.specs.Message.{header, status};
 ghost use Rattle.protocol.specs.Permission.{insPermitted, leNeed, dataNeed, commandPermitted, statusPermitted, commandWanted, responseWanted};
 
 const VERIFY: u8 = 0x20;
@@ -70,7 +71,7 @@ fn suits(need: Need, there: bool) -> bool
 
 // A command with n bytes of data.
 pub fn command_permitted(ins: u8, p1: u8, p2: u8, le: bool, n: usize) -> bool
-    ensures { λ r. ⌜ r ≡ commandPermitted (record { ins = ins; p1 = p1; p2 = p2; le = le }) n ⌝ }
+    ensures { λ r. ⌜ r ≡ commandPermitted (header ins p1 p2 le) n ⌝ }
 {
     if ins_permitted(ins) {
         if suits(data_need(ins), 0 < n) {
@@ -82,7 +83,7 @@ pub fn command_permitted(ins: u8, p1: u8, p2: u8, le: bool, n: usize) -> bool
 
 // A card may not wrap a status with SW1 '61'.
 pub fn status_permitted(sw1: u8, sw2: u8) -> bool
-    ensures { λ r. ⌜ r ≡ statusPermitted (record { sw1 = sw1; sw2 = sw2 }) ⌝ }
+    ensures { λ r. ⌜ r ≡ statusPermitted (status sw1 sw2) ⌝ }
 {
     sw1 != 0x61
 }
@@ -102,7 +103,7 @@ pub fn command_wanted(ins: u8) -> Wanted
 
 // What a response's field is read for, beside a status word.
 pub fn response_wanted(sw1: u8, sw2: u8) -> Wanted
-    ensures { λ wanted. ⌜ wanted ≡ responseWanted (record { sw1 = sw1; sw2 = sw2 }) ⌝ }
+    ensures { λ wanted. ⌜ wanted ≡ responseWanted (status sw1 sw2) ⌝ }
 {
     Wanted {
         data: Need::May,

@@ -29,14 +29,16 @@ use Rattle.field_laws.proofs.CoveredWritten.{right-size}
 use Rattle.field_laws.proofs.ReadBack.{read-command, read-response}
 use Rattle.refusal.specs.declared.Refusal.{Refusal}
 use Rattle.session.specs.Session.{fresh}
-use Rattle.stored_keys.specs.StoredKeys.{stored, keyIn}
+use Rattle.stored_keys.specs.StoredKeys.{Keys, keysFit, stored, keyIn}
 use Rattle.transitions.specs.Transitions.{commandTaken, responseTaken}
 use Rattle.turn.specs.Turn.{sameSide, samePhase, isTurn}
 use Rattle.session.specs.declared.Side.{Side}
 use Rattle.session.specs.declared.Side.the-variants.{Host, Card}
 use Rattle.session.specs.declared.Phase.{Phase}
 use Rattle.session.specs.declared.Phase.the-variants.{Ready, Pending, Closed}
-use Rattle.suite.specs.declared.SuiteNumber.the-variants.{Known}
+use Rattle.suite.specs.Suites.{keyLength}
+use Rattle.suite.specs.declared.Suite.{Suite}
+use Rattle.suite.specs.declared.Suite.the-variants.{Cs2, Cs7}
 use Rattle.session.specs.declared.Session.{Session}
 use Rattle.ciphers.specs.Ciphers.{Ciphers, Laws, IsKey}
 use Rattle.ciphers.specs.Aes.{aesCiphers}
@@ -385,17 +387,30 @@ pub delivers-responses : (C : Ciphers) → Laws C → DeliversResponses C
 delivers-responses C L h c m wrapRoom unwrapRoom step keyed permitted fits bytes wrapFits unwrapFits =
     response-delivered C L h c m wrapRoom unwrapRoom step keyed permitted fits bytes wrapFits unwrapFits
 
+-- keys have the length of one suite only
+enc-length : (suite : Suite) (K : Keys) → keysFit (keyLength suite) K ≡ true → length (K .enc) ≡ keyLength suite
+unfolding keysFit
+enc-length suite K e =
+    let n = keyLength suite in
+    eqb-true _ _ (both (eqb (length (K .enc)) n) (eqb (length (K .mac)) n)
+    (both (eqb (length (K .enc)) n && eqb (length (K .mac)) n) (eqb (length (K .rmac)) n) e .0) .0)
+
+one-suite : (s t : Suite) (K : Keys) → keysFit (keyLength s) K ≡ true → keysFit (keyLength t) K ≡ true → t ≡ s
+one-suite Cs2 Cs2 K e f = refl
+one-suite Cs2 Cs7 K e f = let z : ⊥ = omega (arith, enc-length Cs2 K e, enc-length Cs7 K f) in absurd z
+one-suite Cs7 Cs2 K e f = let z : ⊥ = omega (arith, enc-length Cs7 K e, enc-length Cs2 K f) in absurd z
+one-suite Cs7 Cs7 K e f = refl
+
 pub opens-in-step : OpensInStep
-opens-in-step n K y oh oc =
+opens-in-step n m K y oh oc =
     let h : Fresh Host n K = opened Host n K oh in
-    let c : Fresh Card n K = opened Card n K oc in
-    let k : Known (c .suite) ≡ Known (h .suite) = sym (c .known) ∙ h .known in
-    let s : c .suite ≡ h .suite = cc in
+    let c : Fresh Card m K = opened Card m K oc in
+    let s : c .suite ≡ h .suite = one-suite (h .suite) (c .suite) K (h .fits) (c .fits) in
     let g : AreKeys K = are-keys (h .suite) K y (h .fits) in
     let l : Live aesCiphers K Host (fresh Host (h .suite) (stored (K .enc)) (stored (K .mac)) (stored (K .rmac))) [] [] = fresh-live aesCiphers K Host (h .suite) (h .fits) in (
       record {
         host-open = opening-served Host n K oh;
-        card-open = opening-served Card n K oc;
+        card-open = opening-served Card m K oc;
         host-side = ap (λ (t : Session). t .side) (h .is);
         card-side = ap (λ (t : Session). t .side) (c .is);
         host-phase = ap (λ (t : Session). t .phase) (h .is);

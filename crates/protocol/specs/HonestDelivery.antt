@@ -84,10 +84,10 @@ DeliversResponses C =
     → responseLength (length (m .payload)) ≤ wrapRoom → ciphertextLength (length (m .payload)) ≤ unwrapRoom
     → ResponseDelivered C h c m wrapRoom unwrapRoom
 
--- ---- it begins: two openings with the same suite and keys are in step, at count 0
+-- ---- it begins: two openings with the same keys are in step, at count 0; that they are of one suite follows
 
 abbrev pub OpensInStep : Type 0
 OpensInStep =
-    (suite : ℕ) (K : Keys) → KeysOfBytes K → opening Host suite K .answer ≡ Done → opening Card suite K .answer ≡ Done
-    → InStep Ready (opening Host suite K .session) (opening Card suite K .session)
-    × (Keyed (opening Host suite K .session) × (opening Host suite K .session .count ≡ 0))
+    (hostSuite cardSuite : ℕ) (K : Keys) → KeysOfBytes K → opening Host hostSuite K .answer ≡ Done → opening Card cardSuite K .answer ≡ Done
+    → InStep Ready (opening Host hostSuite K .session) (opening Card cardSuite K .session)
+    × (Keyed (opening Host hostSuite K .session) × (opening Host hostSuite K .session .count ≡ 0))

@@ -14,6 +14,12 @@ pub record StatusWord : Type 0 where
   pub sw1 : ℕ
   pub sw2 : ℕ
 
+abbrev pub header : ℕ → ℕ → ℕ → Bool → CommandHeader
+header ins p1 p2 le = record { ins = ins; p1 = p1; p2 = p2; le = le }
+
+abbrev pub status : ℕ → ℕ → StatusWord
+status sw1 sw2 = record { sw1 = sw1; sw2 = sw2 }
+
 pub record Message (H : Type 0) : Type 0 where
   pub header : H
   pub payload : Bytes

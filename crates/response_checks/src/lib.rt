@@ -10,6 +10,7 @@ use turn::is_turn;
 use validity::counts_as_open;
 ghost use mathlib.Core.Path.{_≡_};
 ghost use Rattle.results.specs.Results.{checked};
+ghost use Rattle.protocol.specs.Message.{status};
 ghost use Rattle.protocol.specs.Response.{wrapResponseChecks, unwrapResponseChecks};
 
 // The most data of a response, and the longest field that is read.
@@ -19,7 +20,7 @@ const MAX_RESPONSE_FIELD: usize = 16403;
 
 // Of a wrap: a response with n bytes of data, and a buffer of that size.
 pub fn wrap_response_checks(session: Session, sw1: u8, sw2: u8, n: usize, room: usize) -> Checked
-    ensures { λ r. ⌜ r ≡ checked (wrapResponseChecks session (record { sw1 = sw1; sw2 = sw2 }) n room) ⌝ }
+    ensures { λ r. ⌜ r ≡ checked (wrapResponseChecks session (status sw1 sw2) n room) ⌝ }
 {
     if !counts_as_open(session) {
         return Checked::Refused(Refusal::SessionClosed);
@@ -42,7 +43,7 @@ pub fn wrap_response_checks(session: Session, sw1: u8, sw2: u8, n: usize, room: 
 
 // Of an unwrap: a field of n bytes, and the status word that came with it.
 pub fn unwrap_response_checks(session: Session, sw1: u8, sw2: u8, n: usize) -> Checked
-    ensures { λ r. ⌜ r ≡ checked (unwrapResponseChecks session (record { sw1 = sw1; sw2 = sw2 }) n) ⌝ }
+    ensures { λ r. ⌜ r ≡ checked (unwrapResponseChecks session (status sw1 sw2) n) ⌝ }
 {
     if !counts_as_open(session) {
         return Checked::Refused(Refusal::SessionClosed);

@@ -24,7 +24,8 @@ use Rattle.results.specs.declared.Checked.the-variants.{Passed, Refused}
 use Rattle.results.proofs.Checks.{tests-passed, test-refused}
 use Rattle.verified_text.specs.VerifiedText.{verifiedText}
 use Rattle.verified_text.proofs.Opened.{stages-first}
-use Rattle.unwrap_response.specs.UnwrapResponse.{status, unwrapResponse, readResponse, openResponse}
+use Rattle.protocol.specs.Message.{status}
+use Rattle.unwrap_response.specs.UnwrapResponse.{unwrapResponse, readResponse, openResponse}
 
 module _ (s : Session) (sw1 sw2 : ℕ) (field : Bytes) (room : ℕ) (o : Objects) where
   -- room, MAC and text come first, by the counter and the full MAC that are computed

@@ -5,13 +5,10 @@ use Rattle.fields.specs.Field.{readField}
 use Rattle.fields.specs.declared.Objects.{Objects}
 use Rattle.session.specs.declared.Session.{Session}
 use Rattle.ciphers.specs.Aes.{aesCiphers}
-use Rattle.protocol.specs.Message.{StatusWord, Response}
+use Rattle.protocol.specs.Message.{Response, status}
 use Rattle.protocol.specs.Permission.{responseWanted}
 use Rattle.protocol.specs.Answer.{Answer, _and-then_, Outcome, Out, objectsOf}
 use Rattle.protocol.specs.Response.{openResponse as opens, hostUnwraps}
-
-abbrev pub status : ℕ → ℕ → StatusWord
-status sw1 sw2 = record { sw1 = sw1; sw2 = sw2 }
 
 abbrev pub unwrapResponse : Session → ℕ → ℕ → Bytes → ℕ → Out Response
 unwrapResponse s sw1 sw2 = hostUnwraps aesCiphers s (status sw1 sw2)

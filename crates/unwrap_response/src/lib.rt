@@ -23,7 +23,8 @@ ghost use Rattle.fields.specs.Field.{readField};
 ghost use Rattle.protocol.specs.Permission.{responseWanted};
 ghost use Rattle.protocol.specs.Answer.{concluded, buffer};
 ghost use Rattle.results.specs.Results.{responseResult};
-ghost use Rattle.unwrap_response.specs.UnwrapResponse.{status, unwrapResponse, readResponse, openResponse, payloadOf};
+ghost use Rattle.protocol.specs.Message.{status};
+ghost use Rattle.unwrap_response.specs.UnwrapResponse.{unwrapResponse, readResponse, openResponse, payloadOf};
 
 // Of a field whose objects are these: refusals 6, 9 and 10.
 fn open_response(

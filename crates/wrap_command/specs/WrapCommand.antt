@@ -4,12 +4,9 @@ use Prim.Native.Nat.{ℕ}
 use Rattle.octets.specs.Bytes.{Bytes}
 use Rattle.session.specs.declared.Session.{Session}
 use Rattle.ciphers.specs.Aes.{aesCiphers}
-use Rattle.protocol.specs.Message.{CommandHeader}
+use Rattle.protocol.specs.Message.{header}
 use Rattle.protocol.specs.Answer.{Outcome, Out}
 use Rattle.protocol.specs.Command.{commandCiphertext, commandWrapped, hostWraps}
-
-abbrev pub header : ℕ → ℕ → ℕ → Bool → CommandHeader
-header ins p1 p2 le = record { ins = ins; p1 = p1; p2 = p2; le = le }
 
 abbrev pub wrapCommand : Session → ℕ → ℕ → ℕ → Bool → Bytes → ℕ → Out Bytes
 wrapCommand s ins p1 p2 le d room = hostWraps aesCiphers s (record { header = header ins p1 p2 le; payload = d }) room

@@ -11,7 +11,8 @@ use Rattle.protocol.specs.Response.{wrapResponseChecks, cardWraps}
 use Rattle.results.specs.Results.{checked}
 use Rattle.results.specs.declared.Checked.the-variants.{Passed, Refused}
 use Rattle.results.proofs.Checks.{tests-passed, test-refused}
-use Rattle.wrap_response.specs.WrapResponse.{status, wrapResponse, responseWritten}
+use Rattle.protocol.specs.Message.{status}
+use Rattle.wrap_response.specs.WrapResponse.{wrapResponse, responseWritten}
 
 module _ (s : Session) (sw1 sw2 : ℕ) (d : Bytes) (room : ℕ) where
   pub when-passed : checked (wrapResponseChecks s (status sw1 sw2) (length d) room) ≡ Passed → wrapResponse s sw1 sw2 d room ≡ given (responseWritten s sw1 sw2 d)

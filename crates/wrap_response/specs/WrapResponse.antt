@@ -3,12 +3,9 @@ use Prim.Native.Nat.{ℕ}
 use Rattle.octets.specs.Bytes.{Bytes}
 use Rattle.session.specs.declared.Session.{Session}
 use Rattle.ciphers.specs.Aes.{aesCiphers}
-use Rattle.protocol.specs.Message.{StatusWord}
+use Rattle.protocol.specs.Message.{status}
 use Rattle.protocol.specs.Answer.{Outcome, Out}
 use Rattle.protocol.specs.Response.{responseCiphertext, responseWrapped, cardWraps}
-
-abbrev pub status : ℕ → ℕ → StatusWord
-status sw1 sw2 = record { sw1 = sw1; sw2 = sw2 }
 
 abbrev pub wrapResponse : Session → ℕ → ℕ → Bytes → ℕ → Out Bytes
 wrapResponse s sw1 sw2 d room = cardWraps aesCiphers s (record { header = status sw1 sw2; payload = d }) room

@@ -16,7 +16,8 @@ use Rattle.results.specs.Results.{responseResult}
 use Rattle.results.specs.declared.ResponseAnswer.the-variants.{Accepted}
 use Rattle.verified_text.proofs.Stages.{stand-in}
 use Rattle.verified_text.proofs.Opened.{opens-refused, opens-data}
-use Rattle.unwrap_response.specs.UnwrapResponse.{status, payloadOf}
+use Rattle.protocol.specs.Message.{status}
+use Rattle.unwrap_response.specs.UnwrapResponse.{payloadOf}
 use Rattle.unwrap_response.proofs.Stages.{text-first}
 
 slice-aggregate-response-mac : tie.Need-slice-aggregate-response-mac

@@ -11,7 +11,8 @@ use Rattle.protocol.specs.Answer.{Out, buffer}
 use Rattle.protocol.proofs.CallCases.{may-unwrap-response}
 use Rattle.results.specs.Results.{responseResult}
 use Rattle.results.proofs.Checks.{was-passed}
-use Rattle.unwrap_response.specs.UnwrapResponse.{status, payloadOf}
+use Rattle.protocol.specs.Message.{status}
+use Rattle.unwrap_response.specs.UnwrapResponse.{payloadOf}
 use Rattle.unwrap_response.proofs.Stages.{when-passed, when-refused}
 
 read-response-requires : tie.Need-read-response-requires

@@ -13,7 +13,7 @@ use Rattle.protocol.proofs.CallCases.{may-wrap-command}
 use Rattle.results.specs.Results.{wrapResult}
 use Rattle.results.proofs.Checks.{was-passed}
 use Rattle.results.proofs.KeysTyped.{keys-typed}
-use Rattle.wrap_command.specs.WrapCommand.{header}
+use Rattle.protocol.specs.Message.{header}
 use Rattle.wrap_command.proofs.WrapCases.{when-passed, when-refused}
 
 write-command-requires : tie.Need-write-command-requires

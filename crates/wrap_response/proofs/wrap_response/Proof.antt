@@ -14,7 +14,7 @@ use Rattle.protocol.proofs.CallCases.{may-wrap-response}
 use Rattle.results.specs.Results.{wrapResult}
 use Rattle.results.proofs.Checks.{was-passed}
 use Rattle.results.proofs.KeysTyped.{keys-typed}
-use Rattle.wrap_response.specs.WrapResponse.{status}
+use Rattle.protocol.specs.Message.{status}
 use Rattle.wrap_response.proofs.WrapCases.{when-passed, when-refused}
 
 write-response-requires : tie.Need-write-response-requires
