@@ -71,20 +71,11 @@ module _ (suite : Suite) (key counter ct : Bytes) (h : length key ≡ 32) where
 
 -- ---- the ciphertext stands in a field
 
-part-of : (xs : Bytes) (start n : ℕ) → take (start + n - start) (drop start xs) ≡ take n (drop start xs)
+pub part-of : (xs : Bytes) (start n : ℕ) → take (start + n - start) (drop start xs) ≡ take n (drop start xs)
 part-of xs start n = let e : start + n - start ≡ n = omega arith in ap (λ (k : ℕ). take k (drop start xs)) e
 
 pub length-part : (xs : Bytes) (start n : ℕ) → start + n ≤ length xs → length (take (start + n - start) (drop start xs)) ≡ n
 length-part xs start n h = ap length (part-of xs start n) ∙ length-take-le n (drop start xs) (omega (arith, length-drop start xs))
-
-pub decrypted-part : (k counter xs : Bytes) (start n : ℕ) → start + n ≤ length xs → (text : Bytes) (r : Unpadded)
-    → Decrypted text (length (take (start + n - start) (drop start xs))) r (decrypt k counter (take (start + n - start) (drop start xs)))
-    → Decrypted text n r (decrypt k counter (take n (drop start xs)))
-decrypted-part k counter xs start n h text r d =
-    record {
-      is = d .is ∙ ap (decrypt k counter) (part-of xs start n);
-      within = omega (arith, d .within, length-part xs start n h);
-    }
 
 -- ---- written out
 

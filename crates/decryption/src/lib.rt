@@ -64,8 +64,29 @@ fn decrypt_blocks(
     decrypt_some(suite, sk_enc, counter, ciphertext, text)
 }
 
-// The data of the ciphertext that stands in a field from index `start` on, written from index 0 of the caller's buffer on, and its length; where
-// the padding is wrong, nothing is written.
+// The data, decrypted in the memory `text` and written from index 0 of the caller's buffer on, and its length; where the padding is wrong, nothing
+// is written.
+fn decrypt_by_memory(
+    suite: Suite,
+    sk_enc: [u8; 32],
+    counter: [u8; 16],
+    ciphertext: &[u8],
+    text: &mut [u8],
+    out: &mut [u8],
+) -> Unpadded
+    requires { ⌜ (length (now ciphertext) % 16 ≡ 0) × (length (now ciphertext) ≤ length (now text)) × (length (now ciphertext) ≤ length (now out)) ⌝ }
+    ensures answer { λ r. ⌜ r ≡ unpadded (decrypt (keyIn suite «sk_enc») counter (now (ciphertext .entry))) ⌝ }
+    ensures output { λ _. ⌜ now (out .exit) ≡ buffer (λ d. d) (now (out .entry)) (textOf (decrypt (keyIn suite «sk_enc») counter (now (ciphertext .entry)))) ⌝ }
+{
+    let found = decrypt_blocks(suite, sk_enc, counter, ciphertext, text);
+    let Unpadded::Data(n) = found else {
+        return Unpadded::BadPadding;
+    };
+    put_bytes(out, 0, &text[..n]);
+    Unpadded::Data(n)
+}
+
+// Of the ciphertext that stands in a field from index `start` on.
 pub fn decrypt_text(
     suite: Suite,
     sk_enc: [u8; 32],
@@ -81,10 +102,5 @@ pub fn decrypt_text(
 {
     let end = start + len;
     let mut text = [0u8; 16384];
-    let found = decrypt_blocks(suite, sk_enc, counter, &field[start..end], &mut text);
-    let Unpadded::Data(n) = found else {
-        return Unpadded::BadPadding;
-    };
-    put_bytes(out, 0, &text[..n]);
-    Unpadded::Data(n)
+    decrypt_by_memory(suite, sk_enc, counter, &field[start..end], &mut text, out)
 }

@@ -8,10 +8,15 @@ use lib.Dec.{eqb}
 use lib.ListN.{length}
 use Rattle.octets.specs.Bytes.{Bytes}
 use Rattle.octets.specs.Choice.{if_then_else_}
+use Rattle.octets.specs.Write.{Wrote}
 use Rattle.padding.specs.Padding.{paddedLength}
 use Rattle.objects.specs.Objects.{encryptedData, commandObjects, responseObjects}
 use Rattle.field_lengths.specs.Lengths.{ciphertextLength, encryptedDataLength, commandLength, responseLength}
 use Rattle.objects.proofs.FieldLengths.{length-encryptedData, length-leObject, length-commandObjects, length-responseObjects}
+use Rattle.stored_keys.specs.StoredKeys.{keyIn}
+use Rattle.suite.specs.declared.Suite.{Suite}
+use Rattle.ciphers.specs.Aes.{encrypt}
+use Rattle.encryption.proofs.Encrypted.{length-encrypt}
 
 -- less than m blocks of data take at most m
 pub ciphertext-fits : (p m : ℕ) → p < 16 * m → ciphertextLength p ≤ 16 * m
@@ -22,15 +27,18 @@ ciphertext-fits p m h = go (eqb p 0)
     go true = omega arith
     go false = omega (arith, h)
 
--- the objects, and 10 bytes for the MAC's
-module _ (c : Bytes) (p : ℕ) (e : length c ≡ ciphertextLength p) where
-  data-length : length (encryptedData c) ≡ encryptedDataLength (ciphertextLength p)
-  data-length = length-encryptedData c ∙ ap encryptedDataLength e
+-- the objects of data that was encrypted, and 10 bytes for the MAC's
+module _ (suite : Suite) (key counter d : Bytes) (size : length key ≡ 32) {held out : Bytes} {n : ℕ} (w : Wrote held 0 (encrypt (keyIn suite key) counter d) n out) where
+  pub length-written : length (encrypt (keyIn suite key) counter d) ≡ ciphertextLength (length d)
+  length-written = length-encrypt suite key counter d size
 
-  pub command-room : (le : Bool) → length (commandObjects c le) + 10 ≡ commandLength p le
+  data-length : length (encryptedData (encrypt (keyIn suite key) counter d)) ≡ encryptedDataLength (ciphertextLength (length d))
+  data-length = length-encryptedData (encrypt (keyIn suite key) counter d) ∙ ap encryptedDataLength length-written
+
+  pub command-room : (le : Bool) → length (commandObjects (encrypt (keyIn suite key) counter d) le) + 10 ≡ commandLength (length d) le
   unfolding commandLength
-  command-room le = ap (λ (n : ℕ). n + 10) (length-commandObjects c le ∙ ap₂ _+_ data-length (length-leObject le))
+  command-room le = ap (λ (k : ℕ). k + 10) (length-commandObjects (encrypt (keyIn suite key) counter d) le ∙ ap₂ _+_ data-length (length-leObject le))
 
-  pub response-room : (sw1 sw2 : ℕ) → length (responseObjects c sw1 sw2) + 10 ≡ responseLength p
+  pub response-room : (sw1 sw2 : ℕ) → length (responseObjects (encrypt (keyIn suite key) counter d) sw1 sw2) + 10 ≡ responseLength (length d)
   unfolding responseLength
-  response-room sw1 sw2 = ap (λ (n : ℕ). n + 10) (length-responseObjects c sw1 sw2 ∙ ap (λ (n : ℕ). n + 4) data-length)
+  response-room sw1 sw2 = ap (λ (k : ℕ). k + 10) (length-responseObjects (encrypt (keyIn suite key) counter d) sw1 sw2 ∙ ap (λ (k : ℕ). k + 4) data-length)

@@ -10,7 +10,7 @@ use lib.Seq.{length-take-le}
 use Rattle.octets.proofs.Writing.{wrote-all, over-full}
 
 slice-aggregate-put-bytes-2 : tie.Need-slice-aggregate-put-bytes-2
-slice-aggregate-put-bytes-2 c = let n : length (c .before .before .args .t1) ≡ 16 = search (needs, c .before .before .good) in sym (length-take-le 8 (c .before .before .args .t1) (omega (arith, n)))
+slice-aggregate-put-bytes-2 c = let n : length (c .before .before .args .t1) ≡ 16 = search (needs, c .before .before .good) in sym (length-take-le _ (c .before .before .args .t1) (omega (arith, n)))
 
 put-bytes-requires : tie.Need-put-bytes-requires
 put-bytes-requires c κs = let n : length (c .before .before .args .t1) ≡ 16 = search (needs, c .before .before .good) in simp length-take (omega (arith, n))

@@ -8,11 +8,9 @@ use native.Mathlib.Nat.{zero-add}
 use native.Mathlib.Omega.{arith}
 use lib.ListN.{length}
 use Rattle.octets.proofs.Writing.{wrote-start}
-use Rattle.stored_keys.specs.StoredKeys.{keyIn}
-use Rattle.ciphers.specs.Aes.{encrypt, aesCiphers}
+use Rattle.ciphers.specs.Aes.{aesCiphers}
 use Rattle.protocol.specs.Response.{responseCiphertext}
-use Rattle.encryption.proofs.Encrypted.{length-encrypt}
-use Rattle.encryption.proofs.Room.{ciphertext-fits, response-room}
+use Rattle.encryption.proofs.Room.{ciphertext-fits, length-written, response-room}
 
 encrypt-text-requires : tie.Need-encrypt-text-requires
 encrypt-text-requires c κs = ciphertext-fits (length (c .before .before .before .before .before .args .«data» .now)) 1024 (omega (arith, c .before .before .before .before .before .pre .1))
@@ -22,8 +20,7 @@ array-share-prefix-text c =
     let a = c .before .before .before .before .before .before .before .before .args in
     let w = c .before .before .encrypt-text .ensures in
     let key : length (a .session .«sk_enc») ≡ 32 = search (needs, c .before .before .before .before .before .before .before .before .good) in
-    let ct = encrypt (keyIn (a .session .suite) (a .session .«sk_enc»)) (c .before .before .before .before .response-counter .result) (a .«data» .now) in
-    let l = length-encrypt (a .session .suite) (a .session .«sk_enc») (c .before .before .before .before .response-counter .result) (a .«data» .now) key in
+    let l = length-written (a .session .suite) (a .session .«sk_enc») _ (a .«data» .now) key w in
     let fit = ciphertext-fits (length (a .«data» .now)) 1024 (omega (arith, c .before .before .before .before .before .before .before .before .pre .1)) in
     omega (arith, w .end, l, fit, c .before .before .encrypt-text .kept)
 
@@ -36,10 +33,9 @@ put-response-objects-requires c κs =
     let a = c .before .before .before .before .before .before .before .before .before .args in
     let w = c .before .before .before .encrypt-text .ensures in
     let key : length (a .session .«sk_enc») ≡ 32 = search (needs, c .before .before .before .before .before .before .before .before .before .good) in
-    let ct = encrypt (keyIn (a .session .suite) (a .session .«sk_enc»)) (c .before .before .before .before .before .response-counter .result) (a .«data» .now) in
-    let l = length-encrypt (a .session .suite) (a .session .«sk_enc») (c .before .before .before .before .before .response-counter .result) (a .«data» .now) key in
+    let l = length-written (a .session .suite) (a .session .«sk_enc») _ (a .«data» .now) key w in
     let fit = ciphertext-fits (length (a .«data» .now)) 1024 (omega (arith, c .before .before .before .before .before .before .before .before .before .pre .1)) in
-    rw (wrote-start w) (omega (arith, l, fit), omega (arith, response-room ct (length (a .«data» .now)) l (a .sw1) (a .sw2), c .before .before .before .before .before .before .before .before .before .pre .2))
+    rw (wrote-start w) (omega (arith, l, fit), omega (arith, response-room (a .session .suite) (a .session .«sk_enc») _ (a .«data» .now) key w (a .sw1) (a .sw2), c .before .before .before .before .before .before .before .before .before .pre .2))
 
 returns : tie.Need-returns
 unfolding responseCiphertext aesCiphers
@@ -47,11 +43,8 @@ returns c =
     let a = c .before .before .before .before .before .before .before .before .before .before .before .before .args in
     let w = c .before .before .before .before .before .before .encrypt-text .ensures in
     let key : length (a .session .«sk_enc») ≡ 32 = search (needs, c .before .before .before .before .before .before .before .before .before .before .before .before .good) in
-    let ct = encrypt (keyIn (a .session .suite) (a .session .«sk_enc»)) (c .before .before .before .before .before .before .before .before .response-counter .result) (a .«data» .now) in
-    let l = length-encrypt (a .session .suite) (a .session .«sk_enc») (c .before .before .before .before .before .before .before .before .response-counter .result) (a .«data» .now) key in
-    let fit = ciphertext-fits (length (a .«data» .now)) 1024 (omega (arith, c .before .before .before .before .before .before .before .before .before .before .before .before .pre .1)) in
     let p = rw (wrote-start w) at (c .before .before .put-response-objects .ensures) in
-    (rw (c .before .before .before .before .before .before .before .before .response-counter .ensures) at p, omega (arith, p .end, response-room ct (length (a .«data» .now)) l (a .sw1) (a .sw2), c .before .before .before .before .before .before .before .before .before .before .before .before .pre .2))
+    (rw (c .before .before .before .before .before .before .before .before .response-counter .ensures) at p, omega (arith, p .end, response-room (a .session .suite) (a .session .«sk_enc») _ (a .«data» .now) key w (a .sw1) (a .sw2), c .before .before .before .before .before .before .before .before .before .before .before .before .pre .2))
 
 pub put-objects-spec : {M : Type 1} → statement M
 put-objects-spec =
