@@ -68,6 +68,7 @@ fn write_command(
 }
 
 // A command with its data, as a field in the caller's buffer: refusals 1, 2, 3, 4, 5 and 6.
+// `bytes` and `keyed` are what the types say of the arguments; the demands use them.
 pub fn wrap_command(
     session: Session,
     ins: u8,

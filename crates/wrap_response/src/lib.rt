@@ -60,6 +60,7 @@ fn write_response(session: Session, sw1: u8, sw2: u8, data: &[u8], out: &mut [u8
 }
 
 // A status word with its data, as a field in the caller's buffer: refusals 1, 2, 3, 4 and 6.
+// `bytes` and `keyed` are what the types say of the arguments; the demands use them.
 pub fn wrap_response(session: Session, sw1: u8, sw2: u8, data: &[u8], out: &mut [u8]) -> WrapResult
     ensures result { λ r. ⌜ r ≡ wrapResult (wrapResponse session sw1 sw2 (now («data» .entry)) (length (now (out .entry)))) ⌝ }
     ensures output { λ _. ⌜ now (out .exit) ≡ buffer (λ field. field) (now (out .entry)) (wrapResponse session sw1 sw2 (now («data» .entry)) (length (now (out .entry))) .answer) ⌝ }
