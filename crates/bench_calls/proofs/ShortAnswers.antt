@@ -1,11 +1,11 @@
 -- What a call gives out is short, so that its length fits 32 bits. Assumes nothing.
-use mathlib.Core.Path.{_≡_, refl, ap, sym, _∙_}
+use mathlib.Core.Path.{_≡_, refl, _∙_}
 use mathlib.Core.Bool.{Bool, true, false}
 use mathlib.Core.List.{[]}
 use Prim.Native.Nat.{ℕ, _+_, _*_, _/_, _≤_}
 use native.Mathlib.Omega.{arith}
 use lib.Dec.{eqb}
-use lib.ListN.{length, take, drop, length-take, length-drop}
+use lib.ListN.{length, take, length-take, length-drop}
 use lib.Seq.{length-take-le}
 use Rattle.octets.specs.Bytes.{Bytes}
 use Rattle.octets.specs.Choice.{if_then_else_}
@@ -18,7 +18,7 @@ use Rattle.cbc.specs.Cbc.{cbcEncrypt}
 use Rattle.cbc.proofs.RoundTrip.{length-cbc}
 use Rattle.cmac.proofs.WholeMessage.{length-cmac}
 use Rattle.objects.specs.Objects.{commandObjects}
-use Rattle.objects.specs.Lengths.{ciphertextLength, encryptedDataLength, commandLength}
+use Rattle.objects.specs.Lengths.{ciphertextLength, commandLength}
 use Rattle.objects.proofs.FieldLengths.{data-most, length-commandField}
 use Rattle.encryption.proofs.Room.{ciphertext-fits}
 use Rattle.session.specs.Session.{keyIn}

@@ -3,7 +3,6 @@ use mathlib.Core.Bool.{Bool}
 use Prim.Native.Nat.{ℕ}
 use lib.ListN.{length}
 use Rattle.octets.specs.Bytes.{Bytes}
-use Rattle.session.specs.declared.Session.{Session}
 use Rattle.saved.specs.Saved.{decode}
 use Rattle.saved.specs.declared.Decoding.{Decoding}
 use Rattle.saved.specs.declared.Decoding.the-variants.{Decoded as Done, Refused}

@@ -4,7 +4,6 @@ use crate::show;
 use octets::put_byte;
 use octets::put_bytes;
 ghost use Prim.Native.Nat.{_≤_, _<_};
-ghost use lib.ListN.{length};
 
 pub struct Status {
     pub sw1: u8,

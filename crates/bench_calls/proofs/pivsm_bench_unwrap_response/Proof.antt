@@ -1,9 +1,9 @@
 -- `pivsm_bench_unwrap_response` meets its contract: the session is read, or not. Assumes nothing.
-use mathlib.Core.Path.{_≡_, ap, _∙_}
+use mathlib.Core.Path.{ap, _∙_}
 use lib.ListN.{length}
 use borrow.Author.Needs.{needs}
 use Rattle.session.specs.declared.Session.{Session}
-use Rattle.protocol.specs.Answer.{Answer, buffer}
+use Rattle.protocol.specs.Answer.{buffer}
 use Rattle.unwrap_response.specs.UnwrapResponse.{unwrapResponse, payloadOf}
 use Rattle.bench_calls.specs.Calls.{lengthOf}
 use Rattle.bench_calls.proofs.Given.{was-read, was-not-read}

@@ -1,10 +1,10 @@
 -- `pivsm_bench_wrap_command` meets its contract: the session is read, or not. Assumes nothing.
-use mathlib.Core.Path.{_≡_, ap, _∙_}
+use mathlib.Core.Path.{ap, _∙_}
 use lib.ListN.{length}
 use borrow.Author.Needs.{needs}
 use Rattle.octets.specs.Bytes.{Bytes}
 use Rattle.session.specs.declared.Session.{Session}
-use Rattle.protocol.specs.Answer.{Answer, buffer}
+use Rattle.protocol.specs.Answer.{buffer}
 use Rattle.wrap_command.specs.WrapCommand.{wrapCommand}
 use Rattle.bench_calls.specs.Calls.{lengthOf}
 use Rattle.bench_calls.proofs.Given.{was-read, was-not-read}
