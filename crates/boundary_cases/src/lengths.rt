@@ -2,76 +2,81 @@
 use crate::ends;
 use crate::first;
 use crate::row;
-use crate::row::FILL;
+use wrap_command::wrap_command;
+use wrap_response::wrap_response;
 
-pub fn commands() {
+pub fn cases() {
+    command_data();
+    command_fields();
+    response_data();
+    response_fields();
+}
+
+fn command_data() {
     let data = [0x11u8; 2048];
-    let mut field = [FILL; 2100];
     row::host_wraps(
         b"2,047 bytes of data                       ",
         ends::host(),
         first(&data, 2047),
-        &mut field,
+        2100,
     );
-    let mut out = [FILL; 2100];
     row::host_wraps(
         b"2,048 bytes of data                       ",
         ends::host(),
         &data,
-        &mut out,
+        2100,
     );
-    command_fields(&field);
 }
 
-fn command_fields(field: &[u8]) {
-    let mut out = [FILL; 2100];
+// A byte too many stands behind a whole field.
+fn command_fields() {
+    let data = [0x11u8; 2047];
+    let mut field = [0u8; 2067];
+    wrap_command(ends::host(), 0xcb, 0x3f, 0xff, true, &data, &mut field);
     row::card_unwraps(
         b"a field of 2,066 bytes                    ",
         ends::card(),
-        first(field, 2066),
-        &mut out,
+        first(&field, 2066),
+        2100,
     );
-    let mut out = [FILL; 2100];
     row::card_unwraps(
         b"a field of 2,067 bytes                    ",
         ends::card(),
-        first(field, 2067),
-        &mut out,
+        &field,
+        2100,
     );
 }
 
-pub fn responses() {
+fn response_data() {
     let data = [0x11u8; 16384];
-    let mut field = [FILL; 16500];
     row::card_wraps(
         b"16,383 bytes of data                      ",
         ends::busy_card(),
         first(&data, 16383),
-        &mut field,
+        16500,
     );
-    let mut out = [FILL; 16500];
     row::card_wraps(
         b"16,384 bytes of data                      ",
         ends::busy_card(),
         &data,
-        &mut out,
+        16500,
     );
-    response_fields(&field);
 }
 
-fn response_fields(field: &[u8]) {
-    let mut out = [FILL; 16500];
+fn response_fields() {
+    let data = [0x11u8; 16383];
+    let mut field = [0u8; 16404];
+    wrap_response(ends::busy_card(), 0x90, 0x00, &data, &mut field);
     row::host_unwraps(
         b"a field of 16,403 bytes                   ",
         ends::waiting_host(),
-        first(field, 16403),
-        &mut out,
+        first(&field, 16403),
+        16500,
     );
-    let mut out = [FILL; 16500];
     row::host_unwraps(
         b"a field of 16,404 bytes                   ",
         ends::waiting_host(),
-        first(field, 16404),
-        &mut out,
+        &field,
+        16500,
     );
 }

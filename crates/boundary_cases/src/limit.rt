@@ -1,5 +1,4 @@
 // The last command of a session, and one more. The sessions are read from saved ones.
-use crate::ample;
 use crate::ends::DATA;
 use crate::row;
 use session::Session;
@@ -31,26 +30,36 @@ fn read(side: u8, count: [u8; 4]) -> Session {
     loaded::decode(&bytes).session
 }
 
-pub fn reading() {
+pub fn cases() {
+    reading();
+    host();
+    card();
+}
+
+fn reading() {
     let bytes = saved(0, [0, 0, 0xff, 0xff]);
     row::reads(b"a saved session, count 65,535             ", &bytes);
     let bytes = saved(0, [0, 1, 0, 0]);
     row::reads(b"a saved session, count 65,536             ", &bytes);
 }
 
-pub fn host() {
-    ample::host_wraps(
+fn host() {
+    row::host_wraps(
         b"after 65,534 commands                     ",
         read(0, [0, 0, 0xff, 0xfe]),
+        &DATA,
+        40,
     );
-    ample::host_wraps(
+    row::host_wraps(
         b"after 65,535 commands                     ",
         read(0, [0, 0, 0xff, 0xff]),
+        &DATA,
+        40,
     );
 }
 
 // The field is the host's of command 65,535.
-pub fn card() {
+fn card() {
     let mut field = [0u8; 32];
     wrap_command(
         read(0, [0, 0, 0xff, 0xfe]),
@@ -61,14 +70,16 @@ pub fn card() {
         &DATA,
         &mut field,
     );
-    ample::card_unwraps(
+    row::card_unwraps(
         b"after 65,534 commands                     ",
         read(1, [0, 0, 0xff, 0xfe]),
         &field,
+        40,
     );
-    ample::card_unwraps(
+    row::card_unwraps(
         b"after 65,535 commands                     ",
         read(1, [0, 0, 0xff, 0xff]),
         &field,
+        40,
     );
 }

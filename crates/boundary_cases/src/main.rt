@@ -1,6 +1,5 @@
 // Either side of each line that document 01 draws, tried on the calls that wrap and unwrap. DERIVED.md has the reason of each line of the
 // file stdout.
-mod ample;
 mod ends;
 mod lengths;
 mod limit;
@@ -11,20 +10,11 @@ mod text;
 
 fn main() {
     row::head();
-    lengths::commands();
-    lengths::responses();
-    limit::reading();
-    limit::host();
-    limit::card();
-    room::host_wraps();
-    room::card_unwraps();
-    room::card_wraps();
-    room::host_unwraps();
-    replay::responses();
-    replay::commands();
-    text::responses();
-    text::closed();
-    text::commands();
+    lengths::cases();
+    limit::cases();
+    room::cases();
+    replay::cases();
+    text::cases();
 }
 
 // The first n bytes, or all where there are fewer.

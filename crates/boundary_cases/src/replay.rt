@@ -1,59 +1,93 @@
 // Messages that come again, or not at all: each call begins where the one before it ended.
-use crate::ample;
 use crate::ends;
+use crate::ends::DATA;
 use crate::row;
-use crate::row::FILL;
 use session::Session;
 
-// The first response, behind an answer without secure messaging.
+pub fn cases() {
+    let response = ends::response_field();
+    replayed_response(first_response(&response), &response);
+    let command = ends::command_field();
+    replayed_command(first_command(&command), &command);
+}
+
+// The first response, behind an answer without secure messaging and before the same again.
 fn first_response(field: &[u8]) -> Session {
-    let mut out = [FILL; 40];
-    let host = row::unwraps_status(
+    let waiting = row::unwraps_status(
         b"no bytes, status 69 82                    ",
         ends::waiting_host(),
         0x69,
         0x82,
         b"",
-        &mut out,
+        40,
     );
-    ample::host_unwraps(b"then the first response                   ", host, field)
+    let ready = row::host_unwraps(
+        b"then the first response                   ",
+        waiting,
+        field,
+        40,
+    );
+    row::host_unwraps(
+        b"then the same again                       ",
+        ready,
+        field,
+        40,
+    )
 }
 
-pub fn responses() {
-    let field = ends::response_field();
-    let ready = first_response(&field);
-    let refused = ample::host_unwraps(b"then the same again                       ", ready, &field);
-    let waiting = ample::host_wraps(b"then the second command                   ", refused);
-    replayed_response(waiting, &field);
-}
-
-fn replayed_response(waiting: Session, field: &[u8]) {
-    let closed = ample::host_unwraps(
+fn replayed_response(ready: Session, field: &[u8]) {
+    let waiting = row::host_wraps(
+        b"then the second command                   ",
+        ready,
+        &DATA,
+        40,
+    );
+    let closed = row::host_unwraps(
         b"then the first response, replayed         ",
         waiting,
         field,
+        40,
     );
-    ample::host_wraps(b"then another command                      ", closed);
+    row::host_wraps(
+        b"then another command                      ",
+        closed,
+        &DATA,
+        40,
+    );
 }
 
-// The first command, and once more while the card is busy.
 fn first_command(field: &[u8]) -> Session {
-    let busy = ample::card_unwraps(
+    let busy = row::card_unwraps(
         b"the first command                         ",
         ends::card(),
         field,
+        40,
     );
-    ample::card_unwraps(b"then the same again                       ", busy, field)
+    row::card_unwraps(
+        b"then the same again                       ",
+        busy,
+        field,
+        40,
+    )
 }
 
-pub fn commands() {
-    let field = ends::command_field();
-    let busy = first_command(&field);
-    let ready = ample::card_wraps(b"then the first response                   ", busy);
-    replayed_command(ready, &field);
-}
-
-fn replayed_command(ready: Session, field: &[u8]) {
-    let closed = ample::card_unwraps(b"then the first command, replayed          ", ready, field);
-    ample::card_wraps(b"then another response                     ", closed);
+fn replayed_command(busy: Session, field: &[u8]) {
+    let ready = row::card_wraps(
+        b"then the first response                   ",
+        busy,
+        &DATA,
+        40,
+    );
+    let closed = row::card_unwraps(
+        b"then the first command, replayed          ",
+        ready,
+        field,
+        40,
+    );
+    row::card_wraps(
+        b"then another response                     ",
+        closed,
+        &DATA,
+        40,
+    );
 }

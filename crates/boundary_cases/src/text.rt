@@ -1,7 +1,8 @@
 // Texts with right and with wrong padding, in fields with a right MAC.
-use crate::ample;
 use crate::ends;
+use crate::ends::DATA;
 use crate::first;
+use crate::row;
 use counter::command_counter;
 use counter::response_counter;
 use encryption::encrypt_text;
@@ -13,6 +14,14 @@ use session_mac::response_mac;
 use session_mac::truncated;
 ghost use Prim.Native.Nat.{_≤_};
 ghost use lib.ListN.{length};
+
+pub fn cases() {
+    one_block();
+    two_blocks();
+    one_byte();
+    closed();
+    commands();
+}
 
 // '87' with this encrypted data, and the object behind it.
 fn put_objects(ciphertext: &[u8], second: &[u8], out: &mut [u8]) -> usize
@@ -61,7 +70,7 @@ fn command(case: &[u8], text: &[u8]) -> Session
 {
     let mut field = [0u8; 49];
     let n = put_command(text, &mut field);
-    ample::card_unwraps(case, ends::card(), first(&field, n))
+    row::card_unwraps(case, ends::card(), first(&field, n), 40)
 }
 
 fn response(case: &[u8], text: &[u8]) -> Session
@@ -69,11 +78,10 @@ fn response(case: &[u8], text: &[u8]) -> Session
 {
     let mut field = [0u8; 49];
     let n = put_response(text, &mut field);
-    ample::host_unwraps(case, ends::waiting_host(), first(&field, n))
+    row::host_unwraps(case, ends::waiting_host(), first(&field, n), 40)
 }
 
-// One block, then two.
-pub fn responses() {
+fn one_block() {
     response(
         b"1 byte, '80', 14 zeros                    ",
         b"D\x80\0\0\0\0\0\0\0\0\0\0\0\0\0\0",
@@ -82,6 +90,9 @@ pub fn responses() {
         b"'80', 15 zeros                            ",
         b"\x80\0\0\0\0\0\0\0\0\0\0\0\0\0\0\0",
     );
+}
+
+fn two_blocks() {
     response(
         b"16 bytes, '80', 15 zeros                  ",
         b"DDDDDDDDDDDDDDDD\x80\0\0\0\0\0\0\0\0\0\0\0\0\0\0\0",
@@ -90,6 +101,10 @@ pub fn responses() {
         b"15 bytes, '80', 16 zeros                  ",
         b"DDDDDDDDDDDDDDD\x80\0\0\0\0\0\0\0\0\0\0\0\0\0\0\0\0",
     );
+}
+
+// The least padding.
+fn one_byte() {
     response(
         b"31 bytes, '80'                            ",
         b"DDDDDDDDDDDDDDDDDDDDDDDDDDDDDDD\x80",
@@ -100,15 +115,20 @@ pub fn responses() {
     );
 }
 
-pub fn closed() {
+fn closed() {
     let host = response(
         b"16 zeros                                  ",
         b"\0\0\0\0\0\0\0\0\0\0\0\0\0\0\0\0",
     );
-    ample::host_wraps(b"then another command                      ", host);
+    row::host_wraps(
+        b"then another command                      ",
+        host,
+        &DATA,
+        40,
+    );
 }
 
-pub fn commands() {
+fn commands() {
     command(
         b"1 byte, '80', 14 zeros                    ",
         b"D\x80\0\0\0\0\0\0\0\0\0\0\0\0\0\0",
@@ -118,5 +138,10 @@ pub fn commands() {
         b"\x80\0\0\0\0\0\0\0\0\0\0\0\0\0\0\0",
     );
     let field = ends::command_field();
-    ample::card_unwraps(b"then the first command                    ", card, &field);
+    row::card_unwraps(
+        b"then the first command                    ",
+        card,
+        &field,
+        40,
+    );
 }

@@ -1,0 +1,40 @@
+-- `row::unwraps_status` meets its contract: a buffer that is the start of 16,500 bytes leaves their length as it is. Assumes nothing.
+use mathlib.Core.Path.{sym, _∙_}
+use native.Mathlib.Omega.{arith}
+use lib.Seq.{length-take-le, length-front}
+use borrow.Author.Needs.{needs}
+use Rattle.boundary_cases.proofs.row.unwraps_status.Statement.{statement}
+use Rattle.boundary_cases.proofs.row.unwraps_status.Tie as tie
+
+slice-aggregate-unwrap-response : tie.Need-slice-aggregate-unwrap-response
+slice-aggregate-unwrap-response c = sym (length-take-le (c .before .before .before .before .before .before .args .room) (c .before .filled .result) (omega arith))
+
+slice-aggregate-done : tie.Need-slice-aggregate-done
+slice-aggregate-done c =
+    let out = c .before .before .before .before .before .before .before .filled in
+    let call = c .before .before .before .before .before .unwrap-response in
+    out .ensures ∙ sym (length-front (out .result) (call .last .1 .1 .1 .1 .0) (c .before .before .before .before .before .before .before .before .before .before .before .before .args .room) (call .kept .1 .1 .1 .1 .0))
+
+slice-aggregate-refused : tie.Need-slice-aggregate-refused
+slice-aggregate-refused c =
+    let out = c .before .before .before .before .before .before .before .filled in
+    let call = c .before .before .before .before .before .unwrap-response in
+    out .ensures ∙ sym (length-front (out .result) (call .last .1 .1 .1 .1 .0) (c .before .before .before .before .before .before .before .before .before .before .before .before .args .room) (call .kept .1 .1 .1 .1 .0))
+
+pub unwraps-status-spec : {M : Type 1} → statement M
+unwraps-status-spec =
+    tie.close
+    (tie.spec
+    (λ c. search needs)
+    (λ c κs. search needs)
+    (λ c κs. search needs)
+    (λ c. search needs)
+    slice-aggregate-unwrap-response
+    (λ c κs. search needs)
+    (λ c. search needs)
+    slice-aggregate-done
+    (λ c κs. search needs)
+    (λ c. search needs)
+    slice-aggregate-refused
+    (λ c κs. search needs)
+    (λ c. search needs))
