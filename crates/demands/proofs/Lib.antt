@@ -1,4 +1,5 @@
 pub mod Told
+pub mod Exists
 pub mod RefusalKept
 pub mod Delivered
 pub mod Runs
