@@ -1,0 +1,3 @@
+pub mod Apdu
+pub mod Fragment
+pub mod Reassembly
