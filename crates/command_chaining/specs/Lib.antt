@@ -1,3 +1,4 @@
 pub mod Apdu
 pub mod Fragment
 pub mod Reassembly
+pub mod Chains
