@@ -3,3 +3,5 @@ pub mod Sizes
 pub mod WrittenApdu
 pub mod TakenFragment
 pub mod WholeCommand
+pub mod PossibleChains
+pub mod Theorems
