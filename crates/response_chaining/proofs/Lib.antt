@@ -1,0 +1,2 @@
+pub mod WrittenFragment
+pub mod WholeResponse

@@ -1,2 +1,3 @@
 pub mod Fragment
 pub mod Reassembly
+pub mod Chains
