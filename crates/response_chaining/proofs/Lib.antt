@@ -1,2 +1,4 @@
 pub mod WrittenFragment
 pub mod WholeResponse
+pub mod PossibleChains
+pub mod Theorems
