@@ -38,6 +38,7 @@ delivers-commands w u inStep counted permitted short wrapFits unwrapFits =
       again = λ k.
           subst (λ (s : Session). InStep Pending s (next (unwrapsCommand Card u))) (sym (ap (λ (o : Out Bytes). o .next) wrapped))
           (subst (λ (s : Session). InStep Pending (d .host) s) (sym (ap (λ (o : Out CommandGiven). o .next) (unwrapped k))) (d .again));
+      counted = ap (λ (o : Out Bytes). o .next .count) wrapped ∙ d .counted;
     }
 
 -- the keys of the card's session are those of the host's
@@ -68,6 +69,7 @@ delivers-responses w u inStep permitted short wrapFits unwrapFits =
       again = λ k.
           subst (λ (s : Session). InStep Ready (next (unwrapsResponse Host u)) s) (sym (ap (λ (o : Out Bytes). o .next) wrapped))
           (subst (λ (s : Session). InStep Ready s (d .card)) (sym (ap (λ (o : Out Response). o .next) (unwrapped k))) (d .again));
+      counted = λ k. ap (λ (o : Out Response). o .next .count) (unwrapped k) ∙ d .counted;
     }
 
 pub opens-in-step : OpensInStep
@@ -75,6 +77,6 @@ opens-in-step h c hostOpened cardOpened same =
     let K = hostKeys h in
     let host : opening Host (h .args .0) K ≡ h .result = sym (h .met .0) in
     let card : opening Card (c .args .0) K ≡ c .result = ap (opening Card (c .args .0)) (sym same) ∙ sym (c .met .0) in
-    let d = demand2-openings (h .args .0) (c .args .0) K (h .met .1) (ap (λ (o : Opened). o .answer) host ∙ hostOpened) (ap (λ (o : Opened). o .answer) card ∙ cardOpened) .0 in
-    subst (λ (o : Opened). InStep Ready (o .session) (c .result .session)) host
-    (subst (λ (o : Opened). InStep Ready (opening Host (h .args .0) K .session) (o .session)) card d)
+    let d = demand2-openings (h .args .0) (c .args .0) K (h .met .1) (ap (λ (o : Opened). o .answer) host ∙ hostOpened) (ap (λ (o : Opened). o .answer) card ∙ cardOpened) in
+    (subst (λ (o : Opened). InStep Ready (o .session) (c .result .session)) host
+    (subst (λ (o : Opened). InStep Ready (opening Host (h .args .0) K .session) (o .session)) card (d .0)), ap (λ (o : Opened). o .session .count) (sym host) ∙ d .1 .1)

@@ -2,7 +2,7 @@
 -- header, Le (or its absence) and status." That the functions are what the standards define is said by their contracts. Assumes nothing.
 use mathlib.Core.Path.{_≡_}
 use mathlib.Core.Bool.{true}
-use Prim.Native.Nat.{_≤_, _<_}
+use Prim.Native.Nat.{_+_, _≤_, _<_}
 use lib.ListN.{length}
 use denote.Ref.{now}
 use Rattle.octets.specs.Bytes.{Bytes}
@@ -31,6 +31,7 @@ pub record CommandDelivered (w : WrapsCommand) (u : UnwrapsCommand) : Type 0 whe
   pub unwraps : CommandCarried w u field
       → answer (unwrapsCommand Card u) ≡ gave (record { payload = command w .payload; le = command w .header .le })
   pub again : CommandCarried w u field → InStep Pending (next (wrapsCommand Host w)) (next (unwrapsCommand Card u))
+  pub counted : next (wrapsCommand Host w) .count ≡ session (wrapsCommand Host w) .count + 1
 
 abbrev pub DeliversCommands : Type 0
 DeliversCommands =
@@ -53,6 +54,7 @@ pub record ResponseDelivered (w : WrapsResponse) (u : UnwrapsResponse) : Type 0 
   pub wraps : answer (wrapsResponse Card w) ≡ gave field
   pub unwraps : ResponseCarried w u field → answer (unwrapsResponse Host u) ≡ gave (response w)
   pub again : ResponseCarried w u field → InStep Ready (next (unwrapsResponse Host u)) (next (wrapsResponse Card w))
+  pub counted : ResponseCarried w u field → next (unwrapsResponse Host u) .count ≡ session (unwrapsResponse Host u) .count
 
 abbrev pub DeliversResponses : Type 0
 DeliversResponses =
@@ -63,9 +65,9 @@ DeliversResponses =
     → ciphertextLength (length (response w .payload)) ≤ length (bufferBefore (unwrapsResponse Host u))
     → ResponseDelivered w u
 
--- ---- it begins: two openings with the same keys are in step
+-- ---- it begins: two openings with the same keys are in step, at count 0
 
 abbrev pub OpensInStep : Type 0
 OpensInStep =
     (h : OpensHost) (c : OpensCard) → h .result .answer ≡ Done → c .result .answer ≡ Done
-    → cardKeys c ≡ hostKeys h → InStep Ready (h .result .session) (c .result .session)
+    → cardKeys c ≡ hostKeys h → InStep Ready (h .result .session) (c .result .session) × (h .result .session .count ≡ 0)
