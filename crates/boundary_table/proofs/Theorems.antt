@@ -1,0 +1,16 @@
+-- The lines of the table hold: the checker computes them.
+-- Assumes nothing.
+use mathlib.Core.Path.{refl}
+use Rattle.octets.specs.Choice.{if_then_else_}
+use Rattle.padding.specs.Padding.{paddedLength}
+use Rattle.tlv.specs.Length.{lengthField}
+use Rattle.field_lengths.specs.Lengths.{ciphertextLength, encryptedDataLength, commandLength, responseLength}
+use Rattle.objects.specs.Objects.{object, encryptedData}
+use Rattle.command_chaining.specs.Apdu.{fragmentApdu}
+use Rattle.command_chaining.specs.Fragment.{fragmentSize, fragmentCount, fragment}
+use Rattle.response_chaining.specs.Fragment.{asked, fragmentData}
+use Rattle.boundary_table.specs.Table.{answer, LinesHold}
+
+pub lines-hold : LinesHold
+unfolding answer paddedLength lengthField ciphertextLength encryptedDataLength commandLength responseLength object encryptedData fragmentApdu fragmentSize fragmentCount fragment asked fragmentData
+lines-hold = refl

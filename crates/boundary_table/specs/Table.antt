@@ -1,0 +1,72 @@
+-- Document 01, "Either side of each line": the lines marked M, as one table with a single statement about the definitions that the calls use.
+-- Assumes nothing.
+use mathlib.Core.Path.{_≡_}
+use mathlib.Core.Bool.{Bool, true, false}
+use mathlib.Core.List.{List, [], _∷_, map}
+use Prim.Native.Nat.{ℕ, _+_, _*_, _-_}
+use lib.ListN.{length, take}
+use Rattle.octets.specs.Bytes.{zeros, tabulate}
+use Rattle.field_lengths.specs.Lengths.{ciphertextLength, commandLength, responseLength}
+use Rattle.objects.specs.Objects.{encryptedData}
+use Rattle.command_chaining.specs.Apdu.{header, lc}
+use Rattle.command_chaining.specs.Fragment.{ceiling, fragmentCount, fragment as commandFragment}
+use Rattle.response_chaining.specs.Fragment.{fragmentData}
+
+-- ---- what a line asks of P bytes of data
+
+pub data Question : Type 0 where
+  -- E
+  ciphertext : ℕ → Question
+  -- the tag and the length of '87', as bytes
+  tagAndLength : ℕ → Question
+  -- the field's length, with Le or without
+  command : ℕ → Bool → Question
+  response : ℕ → Question
+  -- the length of each fragment, by the largest size
+  commandFragments : ℕ → Bool → Question
+  responseFragments : ℕ → Question
+
+unfoldable pub answer : Question → List ℕ
+answer (ciphertext p) = ciphertextLength p ∷ []
+answer (tagAndLength p) =
+    let e = ciphertextLength p in let object = encryptedData (zeros e) in take (length object - (e + 1)) object
+answer (command p le) = commandLength p le ∷ []
+answer (response p) = responseLength p ∷ []
+answer (commandFragments p le) =
+    let n = commandLength p le in tabulate (fragmentCount n 255) (λ k. lc (commandFragment (header 0 0 0) (zeros n) 255 k))
+answer (responseFragments p) =
+    let n = responseLength p in tabulate (ceiling n 256) (λ k. length (fragmentData (zeros n) (k * 256) 0x00))
+
+-- ---- the table
+
+pub record Line : Type 0 where
+  pub asks : Question
+  pub gives : List ℕ
+
+infix 4 _is_
+abbrev pub _is_ : Question → List ℕ → Line
+q is ns = record { asks = q; gives = ns }
+
+abbrev pub table : List Line
+table =
+    (ciphertext 15 is 16 ∷ [])
+    ∷ (ciphertext 16 is 32 ∷ [])
+    ∷ (tagAndLength 111 is 0x87 ∷ 0x71 ∷ [])
+    ∷ (tagAndLength 112 is 0x87 ∷ 0x81 ∷ 0x81 ∷ [])
+    ∷ (tagAndLength 239 is 0x87 ∷ 0x81 ∷ 0xF1 ∷ [])
+    ∷ (tagAndLength 240 is 0x87 ∷ 0x82 ∷ 0x01 ∷ 0x01 ∷ [])
+    ∷ (command 8 false is 29 ∷ [])
+    ∷ (command 5 true is 32 ∷ [])
+    ∷ (command 0 false is 10 ∷ [])
+    ∷ (command 239 false is 254 ∷ [])
+    ∷ (command 239 true is 257 ∷ [])
+    ∷ (commandFragments 239 true is 255 ∷ 2 ∷ [])
+    ∷ (command 2047 true is 2066 ∷ [])
+    ∷ (commandFragments 2047 true is 255 ∷ 255 ∷ 255 ∷ 255 ∷ 255 ∷ 255 ∷ 255 ∷ 255 ∷ 26 ∷ [])
+    ∷ (ciphertext 1423 is 1424 ∷ [])
+    ∷ (response 1423 is 1443 ∷ [])
+    ∷ (responseFragments 1423 is 256 ∷ 256 ∷ 256 ∷ 256 ∷ 256 ∷ 163 ∷ [])
+    ∷ []
+
+abbrev pub LinesHold : Type 0
+LinesHold = map (λ line. answer (line .asks)) table ≡ map (λ line. line .gives) table
