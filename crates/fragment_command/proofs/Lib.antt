@@ -1,0 +1,3 @@
+pub mod Apdus
+pub mod FragmentCases
+pub mod Parts

@@ -1,0 +1,15 @@
+-- The part of a field that fragment k holds, by its indices. Assumes nothing.
+use Prim.Native.Nat.{ℕ, suc, _+_, _*_}
+use lib.Dec.{eqb}
+use lib.ListN.{length, take, drop}
+use Rattle.octets.specs.Bytes.{Bytes}
+use Rattle.command_chaining.specs.Fragment.{fragmentSize, fragmentCount}
+use Rattle.fragment_command.specs.declared.Part.{Part}
+
+abbrev pub fragmentPart : Bytes → ℕ → ℕ → Part
+fragmentPart field p k =
+    record {
+      start = k * fragmentSize p;
+      end = k * fragmentSize p + length (take (fragmentSize p) (drop (k * fragmentSize p) field));
+      last = eqb (suc k) (fragmentCount (length field) p);
+    }
