@@ -1,0 +1,2 @@
+pub mod ResponseTests
+pub mod ResponseCases
