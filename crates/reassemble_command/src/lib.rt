@@ -106,7 +106,7 @@ fn continues(chain: CommandChain, ins: u8, p1: u8, p2: u8) -> bool
     p2 == chain.p2
 }
 
-// The state is tested before the sum, which fits a usize for that.
+// The state is tested before the sum is made, so that the sum fits a usize.
 fn reassembly_checks(chain: CommandChain, apdu: &[u8], room: usize) -> Checked
     ensures { λ r. ⌜ r ≡ checked (reassemblyChecks chain (now (apdu .entry)) room) ⌝ }
 {

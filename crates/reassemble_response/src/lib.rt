@@ -40,7 +40,7 @@ fn is_more(bytes: &[u8]) -> bool
     bytes[n] == 0x61
 }
 
-// More fragments follow only one that has data.
+// More fragments follow only a fragment that has data.
 fn more_with_data(bytes: &[u8]) -> bool
     requires { ⌜ 2 ≤ length (now bytes) ⌝ }
     ensures { λ right. ⌜ right ≡ (not (isMore (now (bytes .entry))) || leb 1 (dataLength (now (bytes .entry)))) ⌝ }
@@ -70,7 +70,7 @@ fn possible(chain: ResponseChain) -> bool
     chain.len <= MAX_RESPONSE_FIELD
 }
 
-// The state is tested before the sum, which fits a usize for that.
+// The state is tested before the sum is made, so that the sum fits a usize.
 fn reassembly_checks(chain: ResponseChain, bytes: &[u8], room: usize) -> Checked
     ensures { λ r. ⌜ r ≡ checked (reassemblyChecks chain (now (bytes .entry)) room) ⌝ }
 {

@@ -3,6 +3,7 @@
 use borrow.Author.Needs.{needs}
 use Rattle.reassemble_response.proofs.well_formed.Statement.{statement}
 use Rattle.reassemble_response.proofs.well_formed.Tie as tie
+use native.Mathlib.Omega.{arith}
 use borrow.Author.Tests.{not-true, not-false, le-leb, lt-leb}
 use lib.ListN.{length}
 use Rattle.octets.proofs.Tests.{outcome}
@@ -10,7 +11,7 @@ use Rattle.response_chaining.specs.Reassembly.{wellFormed}
 
 returns : tie.Need-returns
 unfolding wellFormed
-returns c = rw (lt-leb 2 (length (c .before .before .args .bytes .now)) (c .if1 .taken))
+returns c = rw (lt-leb 2 (length (c .before .before .args .bytes .now)) (omega (arith, c .if1 .taken)))
 
 returns-2 : tie.Need-returns-2
 unfolding wellFormed
