@@ -1,0 +1,78 @@
+-- Calls of fragmenting and reassembling that ran: a function's arguments, its result and what its references hold at exit, of which its contract holds
+-- (`Learnt`, which Rattle generates from the contract and proves of the code). Assumes nothing.
+use mathlib.Core.Bool.{false}
+use mathlib.Core.List.{List, [], _∷_}
+use Prim.Native.Nat.{ℕ, _+_, _*_}
+use lib.ListN.{length, take}
+use contract.Lifetimes.{Lfts}
+use denote.Ref.{now}
+use denote.Triple.Clauses.{AtExit}
+use borrow.Fn.Kinds.{Dens, endedOf}
+use Rattle.fragment_command.proofs.fragment_command.Reads as fragment-command
+use Rattle.fragment_command.proofs.fragment_command.Kinds as fragment-command-kinds
+use Rattle.reassemble_command.proofs.reassemble_command.Reads as reassemble-command
+use Rattle.reassemble_command.proofs.reassemble_command.Kinds as reassemble-command-kinds
+use Rattle.octets.specs.Bytes.{Bytes}
+use Rattle.command_chaining.specs.Apdu.{Header, header}
+use Rattle.command_chaining.specs.declared.FragmentAnswer.{FragmentAnswer}
+use Rattle.command_chaining.specs.declared.FragmentAnswer.the-variants.{Fragment, Refused as NotFragmented}
+use Rattle.command_chaining.specs.declared.CommandChain.{CommandChain}
+use Rattle.command_chaining.specs.declared.Reassembly.{Reassembly}
+
+-- fragment_command(ins, p1, p2, field, size, number, out)
+pub record FragmentsCommand : Type 0 where
+  pub κs : Lfts 2
+  pub args : Dens κs fragment-command-kinds.ps
+  pub result : FragmentAnswer
+  pub exit : AtExit (endedOf 2 fragment-command-kinds.ps fragment-command-kinds.r) κs
+  pub met : fragment-command.Learnt κs args result exit
+
+-- reassemble_command(chain, apdu, out)
+pub record ReassemblesCommand : Type 0 where
+  pub κs : Lfts 2
+  pub args : Dens κs reassemble-command-kinds.ps
+  pub result : Reassembly
+  pub exit : AtExit (endedOf 2 reassemble-command-kinds.ps reassemble-command-kinds.r) κs
+  pub met : reassemble-command.Learnt κs args result exit
+
+-- ---- the arguments
+
+abbrev pub headerGiven : FragmentsCommand → Header
+headerGiven f = header (f .args .0) (f .args .1 .0) (f .args .1 .1 .0)
+
+abbrev pub fieldGiven : FragmentsCommand → Bytes
+fieldGiven f = now (f .args .1 .1 .1 .0)
+
+abbrev pub sizeAsked : FragmentsCommand → ℕ
+sizeAsked f = f .args .1 .1 .1 .1 .0
+
+abbrev pub numberAsked : FragmentsCommand → ℕ
+numberAsked f = f .args .1 .1 .1 .1 .1 .0
+
+abbrev pub fragmentBefore : FragmentsCommand → Bytes
+fragmentBefore f = now (f .args .1 .1 .1 .1 .1 .1 .0)
+
+abbrev pub fragmentAfter : FragmentsCommand → Bytes
+fragmentAfter f = now (f .exit .1 .1 .1 .1 .1 .1 .0)
+
+abbrev pub chainGiven : ReassemblesCommand → CommandChain
+chainGiven r = r .args .0
+
+abbrev pub apduGiven : ReassemblesCommand → Bytes
+apduGiven r = now (r .args .1 .0)
+
+abbrev pub fieldBefore : ReassemblesCommand → Bytes
+fieldBefore r = now (r .args .1 .1 .0)
+
+abbrev pub fieldAfter : ReassemblesCommand → Bytes
+fieldAfter r = now (r .exit .1 .1 .0)
+
+-- ---- what a call gave
+
+-- the APDU: the number of bytes that the result names, from the start of the buffer
+abbrev pub apduIn : FragmentAnswer → Bytes → Bytes
+apduIn (Fragment n) out = take n out
+apduIn (NotFragmented r) out = []
+
+abbrev pub apdu : FragmentsCommand → Bytes
+apdu f = apduIn (f .result) (fragmentAfter f)
