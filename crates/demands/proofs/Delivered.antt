@@ -34,6 +34,7 @@ delivers-commands w u inStep counted permitted short wrapFits unwrapFits =
     record {
       field = d .field;
       wraps = ap (λ (o : Out Bytes). o .answer) wrapped;
+      sized = d .sized;
       unwraps = λ k. ap (λ (o : Out CommandGiven). o .answer) (unwrapped k);
       again = λ k.
           subst (λ (s : Session). InStep Pending s (next (unwrapsCommand Card u))) (sym (ap (λ (o : Out Bytes). o .next) wrapped))
@@ -65,6 +66,7 @@ delivers-responses w u inStep permitted short wrapFits unwrapFits =
     record {
       field = d .field;
       wraps = ap (λ (o : Out Bytes). o .answer) wrapped;
+      sized = d .sized;
       unwraps = λ k. ap (λ (o : Out Response). o .answer) (unwrapped k);
       again = λ k.
           subst (λ (s : Session). InStep Ready (next (unwrapsResponse Host u)) s) (sym (ap (λ (o : Out Bytes). o .next) wrapped))

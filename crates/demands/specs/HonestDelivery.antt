@@ -28,6 +28,7 @@ pub record CommandCarried (w : WrapsCommand) (u : UnwrapsCommand) (field : Bytes
 pub record CommandDelivered (w : WrapsCommand) (u : UnwrapsCommand) : Type 0 where
   pub field : Bytes
   pub wraps : answer (wrapsCommand Host w) ≡ gave field
+  pub sized : length field ≡ commandLength (length (command w .payload)) (command w .header .le)
   pub unwraps : CommandCarried w u field
       → answer (unwrapsCommand Card u) ≡ gave (record { payload = command w .payload; le = command w .header .le })
   pub again : CommandCarried w u field → InStep Pending (next (wrapsCommand Host w)) (next (unwrapsCommand Card u))
@@ -52,6 +53,7 @@ pub record ResponseCarried (w : WrapsResponse) (u : UnwrapsResponse) (field : By
 pub record ResponseDelivered (w : WrapsResponse) (u : UnwrapsResponse) : Type 0 where
   pub field : Bytes
   pub wraps : answer (wrapsResponse Card w) ≡ gave field
+  pub sized : length field ≡ responseLength (length (response w .payload))
   pub unwraps : ResponseCarried w u field → answer (unwrapsResponse Host u) ≡ gave (response w)
   pub again : ResponseCarried w u field → InStep Ready (next (unwrapsResponse Host u)) (next (wrapsResponse Card w))
   pub counted : ResponseCarried w u field → next (unwrapsResponse Host u) .count ≡ session (unwrapsResponse Host u) .count

@@ -80,7 +80,7 @@ some-encrypted n = go (eqb n 0) refl
         let f : n ≡ 0 → ⊥ = eqb-false n 0 e in
         lt-ltb 0 (16 * (n / 16 + 1)) (omega arith) ∙ sym (lt-ltb 0 n (omega (arith, f)))
 
-command-short : (n : ℕ) (le : Bool) → n ≤ 2047 → commandLength n le ≤ 2066
+pub command-short : (n : ℕ) (le : Bool) → n ≤ 2047 → commandLength n le ≤ 2066
 unfolding commandLength ciphertextLength paddedLength
 command-short n le h = go (eqb n 0) le
   where
@@ -90,7 +90,7 @@ command-short n le h = go (eqb n 0) le
     go false true = omega (arith, data-most (16 * (n / 16 + 1)))
     go false false = omega (arith, data-most (16 * (n / 16 + 1)))
 
-response-short : (n : ℕ) → n ≤ 16383 → responseLength n ≤ 16403
+pub response-short : (n : ℕ) → n ≤ 16383 → responseLength n ≤ 16403
 unfolding responseLength ciphertextLength paddedLength
 response-short n h = go (eqb n 0)
   where
@@ -98,7 +98,11 @@ response-short n h = go (eqb n 0)
     go true = omega (arith, data-most 0)
     go false = omega (arith, data-most (16 * (n / 16 + 1)))
 
-response-least : (n : ℕ) → 14 ≤ responseLength n
+pub command-least : (n : ℕ) (le : Bool) → 10 ≤ commandLength n le
+unfolding commandLength
+command-least n le = omega arith
+
+pub response-least : (n : ℕ) → 14 ≤ responseLength n
 unfolding responseLength
 response-least n = omega arith
 
@@ -228,6 +232,7 @@ module _ (C : Ciphers) (L : Laws C) (h c : Session) (m : Command) (wrapRoom unwr
         host = commandTaken h full;
         card = commandTaken c full;
         wraps = wraps;
+        sized = length-commandField x n size (take 8 full) mac-size (m .header .le);
         unwraps = unwraps;
         again =
             record {
@@ -358,6 +363,7 @@ module _ (C : Ciphers) (L : Laws C) (h c : Session) (m : Response) (wrapRoom unw
         host = responseTaken h whole;
         card = responseTaken c whole;
         wraps = response-wraps;
+        sized = length-responseField y p response-size (take 8 whole) response-mac-size (m .header .sw1) (m .header .sw2);
         unwraps = response-unwraps;
         again =
             record {

@@ -33,7 +33,7 @@ use Rattle.protocol.specs.RefusalKeeps.{order, writes, IsClosed, Keeps, 
 
 -- ---- the refusals of a stage are among those numbers
 
-abbrev Among : {A : Type 0} → List ℕ → Answer A → Type 0
+abbrev pub Among : {A : Type 0} → List ℕ → Answer A → Type 0
 Among ns a = (r : Refusal) → a ≡ refused r → List·Memᴰ (number r) ns
 
 no-refusal : {A : Type 0} {x : A} {r : Refusal} {P : Type 0} → gave x ≡ refused r → P
@@ -45,7 +45,7 @@ same-refusal A e = cc
 is-refusal : (A : Type 0) (ns : List ℕ) (q : Refusal) → List·Memᴰ (number q) ns → Among {A = A} ns (refused q)
 is-refusal A ns q m r e = subst (λ (x : Refusal). List·Memᴰ (number x) ns) (same-refusal A e) m
 
-require-among : {A : Type 0} (ns : List ℕ) (ok : Bool) (q : Refusal) (rest : Answer A) → List·Memᴰ (number q) ns → Among ns rest
+pub require-among : {A : Type 0} (ns : List ℕ) (ok : Bool) (q : Refusal) (rest : Answer A) → List·Memᴰ (number q) ns → Among ns rest
     → Among ns (require ok else q ⨾ rest)
 unfolding require_else_⨾_
 require-among {A} ns true q rest m f = f
@@ -56,7 +56,7 @@ unfolding _and-then_
 then-among {A} {B} ns (refused q) more f g = is-refusal B ns q (f q refl)
 then-among {A} {B} ns (gave x) more f g = g x
 
-gave-among : {A : Type 0} (ns : List ℕ) (x : A) → Among ns (gave x)
+pub gave-among : {A : Type 0} (ns : List ℕ) (x : A) → Among ns (gave x)
 gave-among ns x r e = no-refusal e
 
 concluded-among : {A : Type 0} (ns : List ℕ) (s : Session) (a : Answer (Outcome A)) → Among ns a → Among ns (concluded s a .answer)

@@ -50,6 +50,7 @@ pub record CommandDelivered (C : Ciphers) (h c : Session) (m : Command) (wrapRoo
   pub host : Session
   pub card : Session
   pub wraps : hostWraps C h m wrapRoom ≡ record { answer = gave field; next = host }
+  pub sized : length field ≡ commandLength (length (m .payload)) (m .header .le)
   pub unwraps : cardUnwraps C c (m .header .ins) (m .header .p1) (m .header .p2) field unwrapRoom
       ≡ record { answer = gave (record { payload = m .payload; le = m .header .le }); next = card }
   pub again : InStep Pending host card
@@ -71,6 +72,7 @@ pub record ResponseDelivered (C : Ciphers) (h c : Session) (m : Response) (wrapR
   pub host : Session
   pub card : Session
   pub wraps : cardWraps C c m wrapRoom ≡ record { answer = gave field; next = card }
+  pub sized : length field ≡ responseLength (length (m .payload))
   pub unwraps : hostUnwraps C h (m .header) field unwrapRoom ≡ record { answer = gave m; next = host }
   pub again : InStep Ready host card
   pub keyed : Keyed host
