@@ -1,1 +1,2 @@
 pub mod CommandChained
+pub mod CommandArrived

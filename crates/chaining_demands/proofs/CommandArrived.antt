@@ -1,0 +1,69 @@
+-- A command carried in fragments arrives: its field comes back whole, so the card is handed what the host wrapped.
+-- Assumes nothing.
+use mathlib.Core.Path.{_≡_, refl, sym, ap, subst, _∙_}
+use mathlib.Core.List.{List, [], _∷_, _++_, map}
+use Prim.Native.Nat.{ℕ, _≤_}
+use native.Mathlib.Omega.{arith}
+use lib.ListN.{length, take, drop}
+use lib.Seq.{take-append-seam}
+use Rattle.octets.specs.Bytes.{Bytes, tabulate}
+use Rattle.octets.specs.Write.{over}
+use Rattle.session.specs.declared.Side.the-variants.{Host, Card}
+use Rattle.protocol.specs.Answer.{Answer, gave}
+use Rattle.protocol.proofs.Delivered.{command-short, command-least}
+use Rattle.command_chaining.specs.Apdu.{Header}
+use Rattle.command_chaining.specs.Chains.{answersTo}
+use Rattle.command_chaining.specs.declared.ReassemblyAnswer.{ReassemblyAnswer}
+use Rattle.command_chaining.specs.declared.ReassemblyAnswer.the-variants.{More, Whole, Refused}
+use Rattle.demands.specs.Calls.{WrapsCommand, UnwrapsCommand, wrapsCommand, unwrapsCommand, command, answer}
+use Rattle.demands.specs.HonestDelivery.{CommandCarried}
+use Rattle.demands.proofs.Theorems.{demand2-commands}
+use Rattle.chaining_demands.specs.Calls.{ReassemblesCommand}
+use Rattle.chaining_demands.specs.CommandChaining.{bufferAfter}
+use Rattle.chaining_demands.specs.ChainedCommand.{fieldIn, fieldOf, headerOf, lastAnswer, Unwraps, DeliversChainedCommands}
+use Rattle.chaining_demands.proofs.CommandChained.{reassembles-commands}
+
+-- the last of some answers
+lastOf : ReassemblyAnswer → List ReassemblyAnswer → ReassemblyAnswer
+lastOf a [] = a
+lastOf a (b ∷ bs) = lastOf b bs
+
+last-is : (a : ReassemblyAnswer) (rs : List ReassemblesCommand) → lastAnswer a rs ≡ lastOf a (map (λ r. r .result .answer) rs)
+unfolding lastOf
+last-is a [] = refl
+last-is a (r ∷ rs) = last-is (r .result .answer) rs
+
+last-appended : (a b : ReassemblyAnswer) (as : List ReassemblyAnswer) → lastOf a (as ++ b ∷ []) ≡ b
+unfolding lastOf
+last-appended a b [] = refl
+last-appended a b (c ∷ as) = last-appended c b as
+
+last-to : (a : ReassemblyAnswer) (h : Header) (n size : ℕ) → lastOf a (answersTo h n size) ≡ Whole n (h .ins) (h .p1) (h .p2)
+unfolding answersTo
+last-to a h n size = last-appended a (Whole n (h .ins) (h .p1) (h .p2)) _
+
+start : (xs ys : Bytes) → take (length ys) (over xs ys) ≡ ys
+unfolding over
+start xs ys = take-append-seam ys (drop (length ys) xs)
+
+carried : (w : WrapsCommand) (u : UnwrapsCommand) (field held out : Bytes) (a : ReassemblyAnswer) → a ≡ Whole (length field) (command w .header .ins) (command w .header .p1) (command w .header .p2)
+    → out ≡ over held field → Unwraps a out u → CommandCarried w u field
+carried w u field held out a e f t =
+    let s = subst (λ (x : ReassemblyAnswer). Unwraps x out u) e t in
+    record { ins = s .0; p1 = s .1; p2 = s .2; whole = s .3 ∙ ap (take (length field)) f ∙ start held field }
+
+pub delivers-chained-commands : DeliversChainedCommands
+delivers-chained-commands w size held fs rs u step counted sendable c =
+    let d = demand2-commands w u step counted (sendable .permitted) (sendable .short) (sendable .wrap-room) (sendable .unwrap-room) in
+    let field : fieldOf w ≡ d .field = ap fieldIn (d .wraps) in
+    let n = length (command w .payload) in
+    let size-is : length (fieldOf w) ≡ length (d .field) = ap length field in
+    let h = headerOf (command w .header) in
+    let r = reassembles-commands h (fieldOf w) size held fs rs
+    (omega (arith, d .sized, command-least n (command w .header .le))) (omega (arith, d .sized, command-short n (command w .header .le) (sendable .short)))
+    (c .small) (c .room) (c .fragmented) (c .reassembled) in
+    let k = subst (CommandCarried w u) field
+    (carried w u (fieldOf w) held (bufferAfter held rs) (lastAnswer (More 0 0 0) rs)
+    (last-is (More 0 0 0) rs ∙ ap (lastOf (More 0 0 0)) (r .answers) ∙ last-to (More 0 0 0) h (length (fieldOf w)) size)
+    (r .buffer) (c .unwrapped)) in
+    record { same = d .unwraps k; again = d .again k; counted = d .counted }
