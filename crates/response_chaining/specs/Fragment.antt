@@ -25,12 +25,13 @@ asked le = if eqb le 0x00 then 256 else le
 unfoldable pub fragmentData : Bytes → ℕ → ℕ → Bytes
 fragmentData field at le = take (asked le) (drop at field)
 
--- its status word, with n bytes left after it
+-- SW2 of "more bytes are available", where n are left
+unfoldable pub announced : ℕ → ℕ
+announced n = if leb n 255 then n else 0x00
+
+-- the status word of a fragment, with n bytes left after it
 unfoldable pub fragmentStatus : StatusWord → ℕ → Bytes
-fragmentStatus sw n =
-    if eqb n 0
-    then sw .sw1 ∷ sw .sw2 ∷ []
-    else if leb n 255 then moreSw1 ∷ n ∷ [] else moreSw1 ∷ 0x00 ∷ []
+fragmentStatus sw n = if eqb n 0 then sw .sw1 ∷ sw .sw2 ∷ [] else moreSw1 ∷ announced n ∷ []
 
 -- the index behind it
 unfoldable pub next : Bytes → ℕ → ℕ → ℕ
