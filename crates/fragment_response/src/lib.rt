@@ -5,12 +5,12 @@ use refusal::Refusal;
 use response_chaining::ResponseFragmentAnswer;
 ghost use mathlib.Core.Path.{_≡_};
 ghost use mathlib.Core.List.{_++_};
-ghost use Prim.Native.Nat.{_+_, _-_, _<_, _≤_};
+ghost use Prim.Native.Nat.{_+_, _-_, _≤_};
 ghost use lib.ListN.{length, take, drop};
 ghost use Rattle.octets.specs.Write.{Wrote};
 ghost use Rattle.protocol.specs.Answer.{buffer};
 ghost use Rattle.protocol.specs.Message.{status};
-ghost use Rattle.response_chaining.specs.Fragment.{asked, announced, fragmentStatus, next, fragment, fragmentResponse, fragmentAnswer};
+ghost use Rattle.response_chaining.specs.Fragment.{asked, announced, fragmentStatus, next, fragmentResponse, fragmentAnswer};
 
 const MAX_RESPONSE_FIELD: usize = 16403;
 
