@@ -1,0 +1,2 @@
+pub mod FragmentCases
+pub mod Parts
