@@ -12,12 +12,21 @@ use Rattle.fragment_command.proofs.fragment_command.Reads as fragment-command
 use Rattle.fragment_command.proofs.fragment_command.Kinds as fragment-command-kinds
 use Rattle.reassemble_command.proofs.reassemble_command.Reads as reassemble-command
 use Rattle.reassemble_command.proofs.reassemble_command.Kinds as reassemble-command-kinds
+use Rattle.fragment_response.proofs.fragment_response.Reads as fragment-response
+use Rattle.fragment_response.proofs.fragment_response.Kinds as fragment-response-kinds
+use Rattle.reassemble_response.proofs.reassemble_response.Reads as reassemble-response
+use Rattle.reassemble_response.proofs.reassemble_response.Kinds as reassemble-response-kinds
 use Rattle.octets.specs.Bytes.{Bytes}
+use Rattle.protocol.specs.Message.{StatusWord, status}
 use Rattle.command_chaining.specs.Apdu.{Header, header}
 use Rattle.command_chaining.specs.declared.FragmentAnswer.{FragmentAnswer}
 use Rattle.command_chaining.specs.declared.FragmentAnswer.the-variants.{Fragment, Refused as NotFragmented}
 use Rattle.command_chaining.specs.declared.CommandChain.{CommandChain}
 use Rattle.command_chaining.specs.declared.Reassembly.{Reassembly}
+use Rattle.response_chaining.specs.declared.ResponseFragmentAnswer.{ResponseFragmentAnswer}
+use Rattle.response_chaining.specs.declared.ResponseFragmentAnswer.the-variants.{Fragment as ResponseFragment, Refused as ResponseNotFragmented}
+use Rattle.response_chaining.specs.declared.ResponseChain.{ResponseChain}
+use Rattle.response_chaining.specs.declared.ResponseReassembly.{ResponseReassembly}
 
 -- fragment_command(ins, p1, p2, field, size, number, out)
 pub record FragmentsCommand : Type 0 where
@@ -35,7 +44,23 @@ pub record ReassemblesCommand : Type 0 where
   pub exit : AtExit (endedOf 2 reassemble-command-kinds.ps reassemble-command-kinds.r) κs
   pub met : reassemble-command.Learnt κs args result exit
 
--- ---- the arguments
+-- fragment_response(sw1, sw2, field, at, le, out)
+pub record FragmentsResponse : Type 0 where
+  pub κs : Lfts 2
+  pub args : Dens κs fragment-response-kinds.ps
+  pub result : ResponseFragmentAnswer
+  pub exit : AtExit (endedOf 2 fragment-response-kinds.ps fragment-response-kinds.r) κs
+  pub met : fragment-response.Learnt κs args result exit
+
+-- reassemble_response(chain, bytes, out)
+pub record ReassemblesResponse : Type 0 where
+  pub κs : Lfts 2
+  pub args : Dens κs reassemble-response-kinds.ps
+  pub result : ResponseReassembly
+  pub exit : AtExit (endedOf 2 reassemble-response-kinds.ps reassemble-response-kinds.r) κs
+  pub met : reassemble-response.Learnt κs args result exit
+
+-- ---- the arguments, and the caller's buffer before and after
 
 abbrev pub headerGiven : FragmentsCommand → Header
 headerGiven f = header (f .args .0) (f .args .1 .0) (f .args .1 .1 .0)
@@ -76,3 +101,47 @@ apduIn (NotFragmented r) out = []
 
 abbrev pub apdu : FragmentsCommand → Bytes
 apdu f = apduIn (f .result) (fragmentAfter f)
+
+-- ---- the same of a response
+
+abbrev pub statusGiven : FragmentsResponse → StatusWord
+statusGiven f = status (f .args .0) (f .args .1 .0)
+
+abbrev pub responseFieldGiven : FragmentsResponse → Bytes
+responseFieldGiven f = now (f .args .1 .1 .0)
+
+abbrev pub indexAsked : FragmentsResponse → ℕ
+indexAsked f = f .args .1 .1 .1 .0
+
+abbrev pub leAsked : FragmentsResponse → ℕ
+leAsked f = f .args .1 .1 .1 .1 .0
+
+abbrev pub responseFragmentBefore : FragmentsResponse → Bytes
+responseFragmentBefore f = now (f .args .1 .1 .1 .1 .1 .0)
+
+abbrev pub responseFragmentAfter : FragmentsResponse → Bytes
+responseFragmentAfter f = now (f .exit .1 .1 .1 .1 .1 .0)
+
+abbrev pub responseChainGiven : ReassemblesResponse → ResponseChain
+responseChainGiven r = r .args .0
+
+abbrev pub bytesGiven : ReassemblesResponse → Bytes
+bytesGiven r = now (r .args .1 .0)
+
+abbrev pub responseFieldBefore : ReassemblesResponse → Bytes
+responseFieldBefore r = now (r .args .1 .1 .0)
+
+abbrev pub responseFieldAfter : ReassemblesResponse → Bytes
+responseFieldAfter r = now (r .exit .1 .1 .0)
+
+abbrev pub bytesIn : ResponseFragmentAnswer → Bytes → Bytes
+bytesIn (ResponseFragment n next) out = take n out
+bytesIn (ResponseNotFragmented r) out = []
+
+abbrev pub bytes : FragmentsResponse → Bytes
+bytes f = bytesIn (f .result) (responseFragmentAfter f)
+
+-- the index that it gave for the next fragment
+abbrev pub nextIn : ResponseFragmentAnswer → ℕ
+nextIn (ResponseFragment n next) = next
+nextIn (ResponseNotFragmented r) = 0

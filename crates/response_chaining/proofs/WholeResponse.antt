@@ -35,7 +35,7 @@ one-more : (sw : StatusWord) (field : Bytes) (n at le : ℕ) (c : ResponseChain)
     → fragment sw field at le ≡ bytes → next field at le ≡ behind
     → reassembleResponse c bytes (length held) ≡ r → reassemblyBuffer c bytes held ≡ held'
     → requests sw field n behind (leAfter (r .answer)) (r .chain) held' ≡ rest
-    → requests sw field (suc n) at le c held ≡ record { answers = r .answer ∷ rest .answers; chain = rest .chain; held = rest .held }
+    → requests sw field (suc n) at le c held ≡ record { indices = at ∷ rest .indices; answers = r .answer ∷ rest .answers; chain = rest .chain; held = rest .held }
 unfolding requests
 one-more sw field n at le c held bytes r behind held' rest b e f g h = rw (b, e, f, g, h)
 
@@ -48,6 +48,7 @@ module _ (sw : StatusWord) (field held : Bytes) (permitted : statusPermitted sw 
   abbrev left : ℕ → ℕ → Reassembled
   left m k =
       record {
+        indices = tabulate (suc m) (λ i. (k + i) * 256);
         answers = tabulate m (λ i. More (suc (k + i) * 256) (announced (length field - suc (k + i) * 256))) ++ Whole (length field) (sw .sw1) (sw .sw2) ∷ [];
         chain = empty;
         held = over held field;
@@ -96,7 +97,7 @@ module _ (sw : StatusWord) (field held : Bytes) (permitted : statusPermitted sw 
         → length (part k) ≤ 256 → fragmentStatus sw (length field - n) ≡ a ∷ b ∷ [] → eqb a moreSw1 ≡ more
         → requests sw field m n (leAfter (taken (status a b) n more .answer)) (taken (status a b) n more .chain) (over held (take (k * 256) field ++ part k)) ≡ rest
         → requests sw field (suc m) (k * 256) le (chain (k * 256)) (over held (take (k * 256) field))
-        ≡ record { answers = taken (status a b) n more .answer ∷ rest .answers; chain = rest .chain; held = rest .held }
+        ≡ record { indices = k * 256 ∷ rest .indices; answers = taken (status a b) n more .answer ∷ rest .answers; chain = rest .chain; held = rest .held }
     taken-then m n a b more rest e inField some small s t g =
         let inRoom : k * 256 + length (part k) ≤ length (over held (take (k * 256) field)) = omega (arith, room) in
         one-more sw field m (k * 256) le (chain (k * 256)) _ (part k ++ a ∷ b ∷ []) (taken (status a b) n more) n _ rest
@@ -121,9 +122,10 @@ module _ (sw : StatusWord) (field held : Bytes) (permitted : statusPermitted sw 
         let ends : length field ≤ k * 256 + 256 = ends-with-last (length field) 256 k (omega arith) e in
         let size : length (part k) ≡ length field - k * 256 = ap length (last-bytes ends) ∙ length-drop (k * 256) field in
         let whole : take (k * 256) field ++ part k ≡ field = ap (λ (d : Bytes). take (k * 256) field ++ d) (last-bytes ends) ∙ take-append-drop (k * 256) field in
-        taken-then 0 (length field) (sw .sw1) (sw .sw2) false (record { answers = []; chain = empty; held = over held field }) (omega arith) (omega arith) (omega arith)
+        taken-then 0 (length field) (sw .sw1) (sw .sw2) false (record { indices = []; answers = []; chain = empty; held = over held field }) (omega arith) (omega arith) (omega arith)
         (omega arith) none-left (not-true (eqb (sw .sw1) moreSw1) permitted)
-        (ap (λ (b : Bytes). record { answers = []; chain = empty; held = over held b }) whole)
+        (ap (λ (b : Bytes). record { indices = []; answers = []; chain = empty; held = over held b }) whole)
+        ∙ ap (λ (j : ℕ). record { indices = j * 256 ∷ []; answers = Whole (length field) (sw .sw1) (sw .sw2) ∷ []; chain = empty; held = over held field }) (sym (add-zero k))
 
     next-one : (m : ℕ) → suc k < ceiling (length field) 256
         → requests sw field (suc m) (suc k * 256) (announced (length field - suc k * 256)) (chain (suc k * 256)) (over held (take (suc k * 256) field)) ≡ left m (suc k)
@@ -136,7 +138,9 @@ module _ (sw : StatusWord) (field held : Bytes) (permitted : statusPermitted sw 
         taken-then (suc m) (suc k * 256) moreSw1 (announced (length field - suc k * 256)) true (left m (suc k)) (omega (arith, suc-mul k 256)) (omega arith) (omega arith)
         (omega arith) (some-left (suc k * 256) v) refl
         (ap (λ (b : Bytes). requests sw field (suc m) (suc k * 256) (announced (length field - suc k * 256)) (chain (suc k * 256)) (over held b)) bytes ∙ g)
-        ∙ ap₂ (λ (j : ℕ) (l : List ResponseReassemblyAnswer). record { answers = More (suc j * 256) (announced (length field - suc j * 256)) ∷ l ++ Whole (length field) (sw .sw1) (sw .sw2) ∷ []; chain = empty; held = over held field })
+        ∙ ap (λ (l : List ℕ). record { indices = k * 256 ∷ l; answers = More (suc k * 256) (announced (length field - suc k * 256)) ∷ left m (suc k) .answers; chain = empty; held = over held field })
+        (tabulate-ext (suc m) (λ i b. ap (λ (j : ℕ). j * 256) (suc-add k i ∙ sym (add-suc k i))))
+        ∙ ap₂ (λ (j : ℕ) (l : List ResponseReassemblyAnswer). record { indices = j * 256 ∷ tabulate (suc m) (λ i. (k + suc i) * 256); answers = More (suc j * 256) (announced (length field - suc j * 256)) ∷ l ++ Whole (length field) (sw .sw1) (sw .sw2) ∷ []; chain = empty; held = over held field })
         (sym (add-zero k))
         (tabulate-ext m (λ i b. ap (λ (j : ℕ). More (suc j * 256) (announced (length field - suc j * 256))) (suc-add k i ∙ sym (add-suc k i))))
 
@@ -161,5 +165,7 @@ reassembles sw field held permitted some short fits =
     let count : n ≡ suc (n - 1) = omega arith in
     ap₂ (λ (m : ℕ) (b : Bytes). requests sw field m 0 0x00 empty b) count (sym (over-nil held))
     ∙ go sw field held permitted short fits (n - 1) 0 0x00 (zero-add (suc (n - 1)) ∙ sym count) (first-asks field)
-    ∙ ap (λ (l : List ResponseReassemblyAnswer). record { answers = l ++ Whole (length field) (sw .sw1) (sw .sw2) ∷ []; chain = empty; held = over held field })
+    ∙ ap (λ (l : List ℕ). record { indices = l; answers = left sw field held permitted short fits (n - 1) 0 .answers; chain = empty; held = over held field })
+    (ap (λ (m : ℕ). tabulate m (λ i. (0 + i) * 256)) (sym count) ∙ tabulate-ext n (λ i b. ap (λ (j : ℕ). j * 256) (zero-add i)))
+    ∙ ap (λ (l : List ResponseReassemblyAnswer). record { indices = tabulate n (λ k. k * 256); answers = l ++ Whole (length field) (sw .sw1) (sw .sw2) ∷ []; chain = empty; held = over held field })
     (tabulate-ext (n - 1) (λ i b. ap (λ (j : ℕ). More (suc j * 256) (announced (length field - suc j * 256))) (zero-add i)))

@@ -19,8 +19,9 @@ use Rattle.response_chaining.specs.declared.ResponseReassemblyAnswer.the
 
 -- ---- a whole response
 
--- the answers to fragments, the chain that they leave, and the caller's buffer
+-- the indices that were asked for, the answers to the fragments, the chain that they leave, and the caller's buffer
 pub record Reassembled : Type 0 where
+  pub indices : List ℕ
   pub answers : List ResponseReassemblyAnswer
   pub chain : ResponseChain
   pub held : Bytes
@@ -33,12 +34,12 @@ leAfter (Refused r) = 0x00
 
 -- n requests, the first for le bytes from index at on, each answered by a fragment that is taken with the chain and the buffer that the one before it left
 unfoldable pub requests : StatusWord → Bytes → ℕ → ℕ → ℕ → ResponseChain → Bytes → Reassembled
-requests sw field zero at le c held = record { answers = []; chain = c; held = held }
+requests sw field zero at le c held = record { indices = []; answers = []; chain = c; held = held }
 requests sw field (suc n) at le c held =
     let first = reassembleResponse c (fragment sw field at le) (length held) in
     let rest =
     requests sw field n (next field at le) (leAfter (first .answer)) (first .chain) (reassemblyBuffer c (fragment sw field at le) held) in
-    record { answers = first .answer ∷ rest .answers; chain = rest .chain; held = rest .held }
+    record { indices = at ∷ rest .indices; answers = first .answer ∷ rest .answers; chain = rest .chain; held = rest .held }
 
 -- more to come after each fragment but the last, which gives the field's length and the status word
 unfoldable pub answersTo : StatusWord → ℕ → List ResponseReassemblyAnswer
@@ -51,7 +52,12 @@ Reassembles =
     (sw : StatusWord) (field held : Bytes)
     → statusPermitted sw ≡ true → 1 ≤ length field → length field ≤ maxResponseField → length field ≤ length held
     → requests sw field (ceiling (length field) 256) 0 0x00 empty held
-    ≡ record { answers = answersTo sw (length field); chain = empty; held = over held field }
+    ≡ record {
+      indices = tabulate (ceiling (length field) 256) (λ k. k * 256);
+      answers = answersTo sw (length field);
+      chain = empty;
+      held = over held field;
+    }
 
 -- ---- the chains that fragments can lead to
 
