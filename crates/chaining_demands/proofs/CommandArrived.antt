@@ -2,16 +2,16 @@
 -- Assumes nothing.
 use mathlib.Core.Path.{_≡_, refl, sym, ap, subst, _∙_}
 use mathlib.Core.List.{List, [], _∷_, _++_, map}
-use Prim.Native.Nat.{ℕ, _≤_}
+use Prim.Native.Nat.{ℕ, suc, _*_, _-_}
 use native.Mathlib.Omega.{arith}
-use lib.ListN.{length, take, drop}
-use lib.Seq.{take-append-seam}
+use lib.ListN.{length, take}
 use Rattle.octets.specs.Bytes.{Bytes, tabulate}
 use Rattle.octets.specs.Write.{over}
 use Rattle.session.specs.declared.Side.the-variants.{Host, Card}
 use Rattle.protocol.specs.Answer.{Answer, gave}
 use Rattle.protocol.proofs.Delivered.{command-short, command-least}
 use Rattle.command_chaining.specs.Apdu.{Header}
+use Rattle.command_chaining.specs.Fragment.{fragmentSize, fragmentCount}
 use Rattle.command_chaining.specs.Chains.{answersTo}
 use Rattle.command_chaining.specs.declared.ReassemblyAnswer.{ReassemblyAnswer}
 use Rattle.command_chaining.specs.declared.ReassemblyAnswer.the-variants.{More, Whole, Refused}
@@ -21,30 +21,17 @@ use Rattle.demands.proofs.Theorems.{demand2-commands}
 use Rattle.chaining_demands.specs.Calls.{ReassemblesCommand}
 use Rattle.chaining_demands.specs.CommandChaining.{bufferAfter}
 use Rattle.chaining_demands.specs.ChainedCommand.{fieldIn, fieldOf, headerOf, lastAnswer, Unwraps, DeliversChainedCommands}
+use Rattle.chaining_demands.proofs.LastOf.{lastOf, last-appended, start}
 use Rattle.chaining_demands.proofs.CommandChained.{reassembles-commands}
 
--- the last of some answers
-lastOf : ReassemblyAnswer → List ReassemblyAnswer → ReassemblyAnswer
-lastOf a [] = a
-lastOf a (b ∷ bs) = lastOf b bs
-
 last-is : (a : ReassemblyAnswer) (rs : List ReassemblesCommand) → lastAnswer a rs ≡ lastOf a (map (λ r. r .result .answer) rs)
-unfolding lastOf
 last-is a [] = refl
 last-is a (r ∷ rs) = last-is (r .result .answer) rs
 
-last-appended : (a b : ReassemblyAnswer) (as : List ReassemblyAnswer) → lastOf a (as ++ b ∷ []) ≡ b
-unfolding lastOf
-last-appended a b [] = refl
-last-appended a b (c ∷ as) = last-appended c b as
-
 last-to : (a : ReassemblyAnswer) (h : Header) (n size : ℕ) → lastOf a (answersTo h n size) ≡ Whole n (h .ins) (h .p1) (h .p2)
 unfolding answersTo
-last-to a h n size = last-appended a (Whole n (h .ins) (h .p1) (h .p2)) _
-
-start : (xs ys : Bytes) → take (length ys) (over xs ys) ≡ ys
-unfolding over
-start xs ys = take-append-seam ys (drop (length ys) xs)
+last-to a h n size =
+    last-appended a (Whole n (h .ins) (h .p1) (h .p2)) (tabulate (fragmentCount n size - 1) (λ k. More (suc k * fragmentSize size) 0x90 0x00))
 
 carried : (w : WrapsCommand) (u : UnwrapsCommand) (field held out : Bytes) (a : ReassemblyAnswer) → a ≡ Whole (length field) (command w .header .ins) (command w .header .p1) (command w .header .p2)
     → out ≡ over held field → Unwraps a out u → CommandCarried w u field

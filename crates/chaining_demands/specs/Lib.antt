@@ -1,3 +1,5 @@
 pub mod Calls
 pub mod CommandChaining
+pub mod ResponseChaining
 pub mod ChainedCommand
+pub mod ChainedResponse
