@@ -53,4 +53,4 @@ delivers-chained-commands w size held fs rs u step counted sendable c =
     (carried w u (fieldOf w) held (bufferAfter held rs) (lastAnswer (More 0 0 0) rs)
     (last-is (More 0 0 0) rs ∙ ap (lastOf (More 0 0 0)) (r .answers) ∙ last-to (More 0 0 0) h (length (fieldOf w)) size)
     (r .buffer) (c .unwrapped)) in
-    record { same = d .unwraps k; again = d .again k; counted = d .counted }
+    record { sent = d .wraps ∙ ap gave (sym field); same = d .unwraps k; again = d .again k; counted = d .counted }

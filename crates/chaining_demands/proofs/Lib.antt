@@ -1,5 +1,9 @@
 pub mod LastOf
+pub mod RefusalKept
 pub mod CommandChained
 pub mod ResponseChained
 pub mod CommandArrived
 pub mod ResponseArrived
+pub mod ExchangesArrived
+pub mod Exists
+pub mod Theorems

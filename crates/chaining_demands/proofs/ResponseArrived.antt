@@ -1,6 +1,6 @@
 -- A response carried in fragments arrives: its field comes back whole, so the host is handed what the card wrapped.
 -- Assumes nothing.
-use mathlib.Core.Path.{_≡_, refl, ap, subst, _∙_}
+use mathlib.Core.Path.{_≡_, refl, sym, ap, subst, _∙_}
 use mathlib.Core.List.{List, [], _∷_, map}
 use Prim.Native.Nat.{ℕ, suc, _*_, _-_}
 use native.Mathlib.Omega.{arith}
@@ -8,6 +8,7 @@ use lib.ListN.{length, take}
 use Rattle.octets.specs.Bytes.{Bytes, tabulate}
 use Rattle.octets.specs.Write.{over}
 use Rattle.protocol.specs.Message.{StatusWord}
+use Rattle.protocol.specs.Answer.{gave}
 use Rattle.protocol.proofs.Delivered.{response-short, response-least}
 use Rattle.command_chaining.specs.Fragment.{ceiling}
 use Rattle.response_chaining.specs.Fragment.{announced}
@@ -52,4 +53,4 @@ delivers-chained-responses w held fs rs u step sendable c =
     (carried w u (fieldOf w) held (bufferAfter held rs) (lastAnswer (More 0 0) rs)
     (last-is (More 0 0) rs ∙ ap (lastOf (More 0 0)) (r .answers) ∙ last-to (More 0 0) sw (length (fieldOf w)))
     (r .buffer) (c .unwrapped)) in
-    record { same = d .unwraps k; again = d .again k; counted = d .counted k }
+    record { sent = d .wraps ∙ ap gave (sym field); same = d .unwraps k; again = d .again k; counted = d .counted k }

@@ -62,6 +62,7 @@ pub record Sendable (w : WrapsCommand) (u : UnwrapsCommand) : Type 0 where
   pub unwrap-room : ciphertextLength (length (command w .payload)) ≤ length (bufferBefore (unwrapsCommand Card u))
 
 pub record CommandArrives (w : WrapsCommand) (u : UnwrapsCommand) : Type 0 where
+  pub sent : answer (wrapsCommand Host w) ≡ gave (fieldOf w)
   pub same : answer (unwrapsCommand Card u) ≡ gave (record { payload = command w .payload; le = command w .header .le })
   pub again : InStep Pending (next (wrapsCommand Host w)) (next (unwrapsCommand Card u))
   pub counted : next (wrapsCommand Host w) .count ≡ session (wrapsCommand Host w) .count + 1

@@ -51,6 +51,7 @@ pub record Sendable (w : WrapsResponse) (u : UnwrapsResponse) : Type 0 where
   pub unwrap-room : ciphertextLength (length (response w .payload)) ≤ length (bufferBefore (unwrapsResponse Host u))
 
 pub record ResponseArrives (w : WrapsResponse) (u : UnwrapsResponse) : Type 0 where
+  pub sent : answer (wrapsResponse Card w) ≡ gave (fieldOf w)
   pub same : answer (unwrapsResponse Host u) ≡ gave (response w)
   pub again : InStep Ready (next (unwrapsResponse Host u)) (next (wrapsResponse Card w))
   pub counted : next (unwrapsResponse Host u) .count ≡ session (unwrapsResponse Host u) .count

@@ -1,0 +1,36 @@
+-- Demands 1 and 2 of fragmenting and reassembling, of the functions that run. Each statement stands in specs/, in a file of its own.
+-- Assumes nothing.
+use Rattle.chaining_demands.specs.RefusalKeeps.{RefusalKeeps}
+use Rattle.chaining_demands.specs.CommandChaining.{ReassemblesCommands}
+use Rattle.chaining_demands.specs.ResponseChaining.{ReassemblesResponses}
+use Rattle.chaining_demands.specs.ChainedCommand.{DeliversChainedCommands}
+use Rattle.chaining_demands.specs.ChainedResponse.{DeliversChainedResponses}
+use Rattle.chaining_demands.specs.HonestExchanges.{HonestExchanges}
+use Rattle.chaining_demands.proofs.RefusalKept.{refusal-keeps}
+use Rattle.chaining_demands.proofs.CommandChained.{reassembles-commands}
+use Rattle.chaining_demands.proofs.ResponseChained.{reassembles-responses}
+use Rattle.chaining_demands.proofs.CommandArrived.{delivers-chained-commands}
+use Rattle.chaining_demands.proofs.ResponseArrived.{delivers-chained-responses}
+use Rattle.chaining_demands.proofs.ExchangesArrived.{honest-exchanges}
+
+-- demand 1: a refusal changes no byte of the caller's buffer, and drops the chain
+pub demand1 : RefusalKeeps
+demand1 = refusal-keeps
+
+-- demand 2: fields come back whole
+pub demand2-command-fields : ReassemblesCommands
+demand2-command-fields = reassembles-commands
+
+pub demand2-response-fields : ReassemblesResponses
+demand2-response-fields = reassembles-responses
+
+-- messages that are carried in fragments arrive
+pub demand2-commands : DeliversChainedCommands
+demand2-commands = delivers-chained-commands
+
+pub demand2-responses : DeliversChainedResponses
+demand2-responses = delivers-chained-responses
+
+-- and so do those of every list of honest exchanges
+pub demand2-exchanges : HonestExchanges
+demand2-exchanges = honest-exchanges
