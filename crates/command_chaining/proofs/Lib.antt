@@ -4,4 +4,5 @@ pub mod WrittenApdu
 pub mod TakenFragment
 pub mod WholeCommand
 pub mod PossibleChains
+pub mod Answers
 pub mod Theorems

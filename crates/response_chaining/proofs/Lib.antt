@@ -1,4 +1,5 @@
 pub mod WrittenFragment
 pub mod WholeResponse
 pub mod PossibleChains
+pub mod Answers
 pub mod Theorems

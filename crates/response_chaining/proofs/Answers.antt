@@ -1,0 +1,109 @@
+-- What fragmenting and reassembling a response answer on either side of their lines, computed: every number of the two orders, given where later tests fail too;
+-- the length needed, what is announced, and the chain that is left.
+-- Assumes nothing.
+use mathlib.Core.Path.{_≡_, refl}
+use mathlib.Core.Bool.{_&&_, _||_, not}
+use mathlib.Core.List.{List, [], _∷_, _++_}
+use Prim.Native.Nat.{ℕ, _-_}
+use lib.ListN.{length, drop}
+use Rattle.octets.specs.Bytes.{Bytes, zeros}
+use Rattle.refusal.specs.Refusal.{number, extra}
+use Rattle.protocol.specs.Message.{StatusWord, status}
+use Rattle.protocol.specs.Permission.{statusPermitted}
+use Rattle.protocol.specs.Answer.{Answer, refused, gave, require_else_⨾_}
+use Rattle.response_chaining.specs.Fragment.{asked, announced, fragmentData, fragmentStatus, next, fragment, fragmentResponse}
+use Rattle.response_chaining.specs.Reassembly.{isMore, wellFormed, chain, empty, possible, reassemblyChecks, taken, concluded, reassembleResponse, getResponse}
+use Rattle.response_chaining.specs.declared.ResponseReassemblyAnswer.{ResponseReassemblyAnswer}
+use Rattle.response_chaining.specs.declared.ResponseReassemblyAnswer.the-variants.{More, Whole, Refused}
+use Rattle.response_chaining.specs.declared.ResponseReassembly.{ResponseReassembly}
+
+-- ---- fragmenting: number and extra of a refusal, or 0, the fragment's length and its status word
+
+fragmented : Answer Bytes → List ℕ
+fragmented (refused q) = number q ∷ extra q ∷ []
+fragmented (gave bytes) = 0 ∷ length bytes ∷ drop (length bytes - 2) bytes
+
+ok : StatusWord
+ok = status 0x90 0x00
+
+fragment-answers :
+    fragmented (fragmentResponse (status 0x61 0x00) (zeros 16404) 16404 0x00 0)
+    ∷ fragmented (fragmentResponse ok (zeros 16404) 16404 0x00 0)
+    ∷ fragmented (fragmentResponse ok (zeros 16403) 16403 0x00 0)
+    ∷ fragmented (fragmentResponse ok [] 0 0x00 300)
+    ∷ fragmented (fragmentResponse ok (zeros 16403) 0 0x00 257)
+    ∷ fragmented (fragmentResponse ok (zeros 16403) 0 0x00 258)
+    ∷ fragmented (fragmentResponse ok (zeros 513) 0 0x00 258)
+    ∷ fragmented (fragmentResponse ok (zeros 512) 0 0x00 258)
+    ∷ fragmented (fragmentResponse ok (zeros 511) 0 0x00 258)
+    ∷ fragmented (fragmentResponse ok (zeros 257) 0 0x00 258)
+    ∷ fragmented (fragmentResponse ok (zeros 256) 0 0x00 258)
+    ∷ fragmented (fragmentResponse ok (zeros 256) 0 0xFF 258)
+    ∷ fragmented (fragmentResponse ok (zeros 9) 8 0x05 3)
+    ∷ fragmented (fragmentResponse (status 0x62 0x61) (zeros 9) 0 0x09 11)
+    ∷ []
+    ≡ (3 ∷ 0 ∷ [])
+    ∷ (4 ∷ 0 ∷ [])
+    ∷ (14 ∷ 0 ∷ [])
+    ∷ (14 ∷ 0 ∷ [])
+    ∷ (6 ∷ 258 ∷ [])
+    ∷ (0 ∷ 258 ∷ 0x61 ∷ 0x00 ∷ [])
+    ∷ (0 ∷ 258 ∷ 0x61 ∷ 0x00 ∷ [])
+    ∷ (0 ∷ 258 ∷ 0x61 ∷ 0x00 ∷ [])
+    ∷ (0 ∷ 258 ∷ 0x61 ∷ 0xFF ∷ [])
+    ∷ (0 ∷ 258 ∷ 0x61 ∷ 0x01 ∷ [])
+    ∷ (0 ∷ 258 ∷ 0x90 ∷ 0x00 ∷ [])
+    ∷ (0 ∷ 257 ∷ 0x61 ∷ 0x01 ∷ [])
+    ∷ (0 ∷ 3 ∷ 0x90 ∷ 0x00 ∷ [])
+    ∷ (0 ∷ 11 ∷ 0x62 ∷ 0x61 ∷ [])
+    ∷ []
+unfolding fragmented ok fragmentResponse require_else_⨾_ statusPermitted asked announced fragmentData fragmentStatus next fragment
+fragment-answers = refl
+
+-- ---- reassembling: the answer's numbers, and the chain
+
+answer : ResponseReassemblyAnswer → List ℕ
+answer (More n le) = 0 ∷ n ∷ le ∷ []
+answer (Whole n sw1 sw2) = 0 ∷ n ∷ sw1 ∷ sw2 ∷ []
+answer (Refused q) = number q ∷ extra q ∷ []
+
+answered : ResponseReassembly → List ℕ
+answered r = answer (r .answer) ++ r .chain .len ∷ []
+
+-- badly formed, also where the chain is impossible: no whole status word; 61 without data; over 256 bytes of data. Then an impossible chain, the limit, the room;
+-- taken, with more to come and whole, without data too
+reassembly-answers :
+    answered (reassembleResponse (chain 16404) [] 0)
+    ∷ answered (reassembleResponse (chain 16404) (0x90 ∷ []) 0)
+    ∷ answered (reassembleResponse (chain 16404) (0x61 ∷ 0x05 ∷ []) 0)
+    ∷ answered (reassembleResponse (chain 16404) (zeros 257 ++ 0x90 ∷ 0x00 ∷ []) 0)
+    ∷ answered (reassembleResponse (chain 16404) (5 ∷ 0x61 ∷ 0x05 ∷ []) 0)
+    ∷ answered (reassembleResponse (chain 16403) (5 ∷ 0x61 ∷ 0x05 ∷ []) 0)
+    ∷ answered (reassembleResponse (chain 16402) (5 ∷ 0x61 ∷ 0x05 ∷ []) 16402)
+    ∷ answered (reassembleResponse (chain 16402) (5 ∷ 0x61 ∷ 0x05 ∷ []) 16403)
+    ∷ answered (reassembleResponse (chain 16402) (5 ∷ 0x90 ∷ 0x05 ∷ []) 16403)
+    ∷ answered (reassembleResponse (chain 16403) (0x6A ∷ 0x61 ∷ []) 16403)
+    ∷ answered (reassembleResponse empty (0x6A ∷ 0x82 ∷ []) 0)
+    ∷ answered (reassembleResponse empty (zeros 256 ++ 0x61 ∷ 0x00 ∷ []) 256)
+    ∷ []
+    ≡ (7 ∷ 0 ∷ 0 ∷ [])
+    ∷ (7 ∷ 0 ∷ 0 ∷ [])
+    ∷ (7 ∷ 0 ∷ 0 ∷ [])
+    ∷ (7 ∷ 0 ∷ 0 ∷ [])
+    ∷ (14 ∷ 0 ∷ 0 ∷ [])
+    ∷ (4 ∷ 0 ∷ 0 ∷ [])
+    ∷ (6 ∷ 16403 ∷ 0 ∷ [])
+    ∷ (0 ∷ 16403 ∷ 0x05 ∷ 16403 ∷ [])
+    ∷ (0 ∷ 16403 ∷ 0x90 ∷ 0x05 ∷ 0 ∷ [])
+    ∷ (0 ∷ 16403 ∷ 0x6A ∷ 0x61 ∷ 0 ∷ [])
+    ∷ (0 ∷ 0 ∷ 0x6A ∷ 0x82 ∷ 0 ∷ [])
+    ∷ (0 ∷ 256 ∷ 0x00 ∷ 256 ∷ [])
+    ∷ []
+unfolding answered answer reassembleResponse concluded taken reassemblyChecks require_else_⨾_ possible wellFormed isMore
+reassembly-answers = refl
+
+-- ---- GET RESPONSE
+
+get-response : getResponse 0xA3 ≡ 0x00 ∷ 0xC0 ∷ 0x00 ∷ 0x00 ∷ 0xA3 ∷ []
+unfolding getResponse
+get-response = refl
