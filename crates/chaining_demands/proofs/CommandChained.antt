@@ -32,8 +32,12 @@ gives : (h : Header) (field : Bytes) (size k room : ℕ) → length field ≤ ma
     → length (fragment h field size k) ≤ room → fragmentCommand h field size k room ≡ gave (fragment h field size k)
 unfolding fragmentCommand require_else_⨾_
 gives h field size k room short small within fits =
-    rw (le-leb size maxFragment small, le-leb (length field) maxCommandField short, lt-ltb k (fragmentCount (length field) size) within,
-      le-leb (length (fragment h field size k)) room fits)
+    rw (
+      le-leb size maxFragment small,
+      le-leb (length field) maxCommandField short,
+      lt-ltb k (fragmentCount (length field) size) within,
+      le-leb (length (fragment h field size k)) room fits,
+    )
 
 same-call : (h i : Header) (field bytes : Bytes) (size p k j room : ℕ) → h ≡ i → field ≡ bytes → size ≡ p → k ≡ j
     → fragmentCommand h field size k room ≡ fragmentCommand i bytes p j room

@@ -1,8 +1,8 @@
+pub mod Answers
 pub mod Ceiling
 pub mod Sizes
 pub mod WrittenApdu
 pub mod TakenFragment
 pub mod WholeCommand
 pub mod PossibleChains
-pub mod Answers
 pub mod Theorems
