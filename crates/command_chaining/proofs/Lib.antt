@@ -2,6 +2,7 @@ pub mod Answers
 pub mod Ceiling
 pub mod Sizes
 pub mod WrittenApdu
+pub mod ExactShapes
 pub mod TakenFragment
 pub mod WholeCommand
 pub mod PossibleChains

@@ -1,8 +1,15 @@
 -- What holds of command chaining, of the definitions. Each statement stands in specs/Chains.
 -- Assumes nothing.
-use Rattle.command_chaining.specs.Chains.{Reassembles, ReachedArePossible, PossibleAreReached, OthersAreRefused}
+use Rattle.command_chaining.specs.Chains.{ExactShapes, WrittenAreWellFormed, Reassembles, ReachedArePossible, PossibleAreReached, OthersAreRefused}
+use Rattle.command_chaining.proofs.ExactShapes.{exact-shapes, written-are-well-formed}
 use Rattle.command_chaining.proofs.WholeCommand.{reassembles}
 use Rattle.command_chaining.proofs.PossibleChains.{reached-are-possible, possible-are-reached, others-are-refused}
+
+pub shapes : ExactShapes
+shapes = exact-shapes
+
+pub shapes-written : WrittenAreWellFormed
+shapes-written = written-are-well-formed
 
 pub whole-command : Reassembles
 whole-command = reassembles

@@ -1,6 +1,6 @@
 -- Document 01, "The wire": all the fragments of a command field, one after another, and the chains that fragments can lead to. Assumes nothing.
 use mathlib.Core.Path.{_≡_}
-use mathlib.Core.Bool.{true, false}
+use mathlib.Core.Bool.{Bool, true, false}
 use mathlib.Core.List.{List, [], _∷_, _++_}
 use Prim.Native.Nat.{ℕ, suc, _*_, _-_, _≤_}
 use lib.ListN.{length}
@@ -9,12 +9,24 @@ use Rattle.octets.specs.Choice.{if_then_else_}
 use Rattle.octets.specs.Write.{over}
 use Rattle.refusal.specs.declared.Refusal.the-variants.{Malformed, BrokenChain}
 use Rattle.protocol.specs.Message.{maxCommandField}
-use Rattle.command_chaining.specs.Apdu.{Header, wellFormed}
+use Rattle.command_chaining.specs.Apdu.{Header, fragmentApdu, headerOf, dataOf, isLast, wellFormed}
 use Rattle.command_chaining.specs.Fragment.{maxFragment, fragmentSize, fragmentCount, fragment}
 use Rattle.command_chaining.specs.Reassembly.{empty, possible, reassembleCommand, reassemblyBuffer}
 use Rattle.command_chaining.specs.declared.CommandChain.{CommandChain}
 use Rattle.command_chaining.specs.declared.ReassemblyAnswer.{ReassemblyAnswer}
 use Rattle.command_chaining.specs.declared.ReassemblyAnswer.the-variants.{More, Whole, Refused}
+
+-- ---- the APDUs that are taken
+
+-- the exact shapes, and no others: a well-formed APDU is the writing of its header and its data
+abbrev pub ExactShapes : Type 0
+ExactShapes =
+    (apdu : Bytes) → wellFormed apdu ≡ true
+    → (apdu ≡ fragmentApdu (isLast apdu) (headerOf apdu) (dataOf apdu)) × (1 ≤ length (dataOf apdu)) × (length (dataOf apdu) ≤ 255)
+
+abbrev pub WrittenAreWellFormed : Type 0
+WrittenAreWellFormed =
+    (last : Bool) (h : Header) (d : Bytes) → 1 ≤ length d → length d ≤ 255 → wellFormed (fragmentApdu last h d) ≡ true
 
 -- ---- a whole command
 
