@@ -1,99 +1,167 @@
-// What goes over the line (SP 800-73-4 Part 2, 4.2.4 and 4.2.6).
+// What goes over the line (SP 800-73-4 Part 2, 4.2.4 and 4.2.6): the calls of one end fragment a field, those of the other reassemble it.
 use crate::Header;
+use crate::first;
 use crate::show;
-use octets::put_byte;
-use octets::put_bytes;
-ghost use Prim.Native.Nat.{_≤_, _<_};
-ghost use lib.ListN.{length};
+use command_chaining::CommandChain;
+use command_chaining::FragmentAnswer;
+use command_chaining::Reassembly;
+use command_chaining::ReassemblyAnswer;
+use refusal::Refusal;
+use response_chaining::ResponseChain;
+use response_chaining::ResponseFragmentAnswer;
+use response_chaining::ResponseReassembly;
+use response_chaining::ResponseReassemblyAnswer;
 
-pub struct Status {
+// A command field where it was reassembled: its length, and the header that came with it.
+pub struct Command {
+    pub len: usize,
+    pub ins: u8,
+    pub p1: u8,
+    pub p2: u8,
+}
+
+// A response field where it was reassembled: its length, and its status word.
+pub struct Response {
+    pub len: usize,
     pub sw1: u8,
     pub sw2: u8,
 }
 
-// The next bytes of a response: how many, and the status behind them.
-struct Piece {
-    len: usize,
+// One fragment of a response, and where the next starts.
+struct Answered {
+    next: usize,
+    reassembly: ResponseReassembly,
+}
+
+// The host sends fragment after fragment until the card has the field whole. A field has at most 9 of them.
+pub fn carry_command(header: Header, field: &[u8], joined: &mut [u8]) -> Command {
+    let mut chain = reassemble_command::empty_chain();
+    let mut number: usize = 0;
+    while number < 9 {
+        let taken = carry_fragment(header, field, number, chain, joined);
+        let answer = taken.answer;
+        match answer {
+            ReassemblyAnswer::Whole(len, ins, p1, p2) => {
+                return Command { len, ins, p1, p2 };
+            }
+            ReassemblyAnswer::More(_, sw1, sw2) => show::bytes(b"response APDU", &[sw1, sw2]),
+            ReassemblyAnswer::Refused(refusal) => show::refused(refusal),
+        }
+        chain = taken.chain;
+        number += 1;
+    }
+    Command {
+        len: 0,
+        ins: 0,
+        p1: 0,
+        p2: 0,
+    }
+}
+
+fn carry_fragment(
+    header: Header,
+    field: &[u8],
+    number: usize,
+    chain: CommandChain,
+    joined: &mut [u8],
+) -> Reassembly {
+    let mut apdu = [0u8; 261];
+    let given = fragment_command::fragment_command(
+        header.ins,
+        header.p1,
+        header.p2,
+        field,
+        0,
+        number,
+        &mut apdu,
+    );
+    match given {
+        FragmentAnswer::Fragment(n) => {
+            show::bytes(b"command APDU", first(&apdu, n));
+            reassemble_command::reassemble_command(chain, first(&apdu, n), joined)
+        }
+        FragmentAnswer::Refused(refusal) => not_taken(refusal),
+    }
+}
+
+fn not_taken(refusal: Refusal) -> Reassembly {
+    let chain = reassemble_command::empty_chain();
+    Reassembly {
+        answer: ReassemblyAnswer::Refused(refusal),
+        chain,
+    }
+}
+
+// The card hands out a field as it is asked, and the host asks on until it has it whole. A field has at most 65 fragments.
+pub fn carry_response(field: &[u8], sw1: u8, sw2: u8, joined: &mut [u8]) -> Response {
+    let mut chain = reassemble_response::empty_chain();
+    let mut at: usize = 0;
+    let mut le: u8 = 0x00;
+    let mut number: usize = 0;
+    while number < 65 {
+        let answered = carry_answer(field, sw1, sw2, at, le, chain, joined);
+        let taken = answered.reassembly;
+        let answer = taken.answer;
+        match answer {
+            ResponseReassemblyAnswer::Whole(len, got1, got2) => {
+                return Response {
+                    len,
+                    sw1: got1,
+                    sw2: got2,
+                };
+            }
+            ResponseReassemblyAnswer::More(_, next_le) => {
+                show::bytes(b"command APDU", &reassemble_response::get_response(next_le));
+                le = next_le;
+            }
+            ResponseReassemblyAnswer::Refused(refusal) => show::refused(refusal),
+        }
+        chain = taken.chain;
+        at = answered.next;
+        number += 1;
+    }
+    Response {
+        len: 0,
+        sw1: 0,
+        sw2: 0,
+    }
+}
+
+fn carry_answer(
+    field: &[u8],
     sw1: u8,
     sw2: u8,
-}
-
-// A field of up to 255 bytes in one APDU; its length, or 0 where it does not go.
-pub fn put_command(header: Header, field: &[u8], out: &mut [u8]) -> usize {
-    let n = field.len();
-    if n > 255 {
-        return 0;
-    }
-    if out.len() < n + 6 {
-        return 0;
-    }
-    let start = put_bytes(out, 0, &[0x0c, header.ins, header.p1, header.p2, n as u8]);
-    let end = put_bytes(out, start, field);
-    put_byte(out, end, 0x00)
-}
-
-// The card gives a field in pieces; the host joins them, and asks with GET RESPONSE while the status is 61 xx. The last status, or 61 00
-// where there is nothing to give or too little room.
-pub fn carry_response(field: &[u8], sw1: u8, sw2: u8, joined: &mut [u8]) -> Status {
-    let mut got1: u8 = 0x61;
-    let mut got2: u8 = 0x00;
-    let mut at: usize = 0;
-    if field.len() > joined.len() {
-        return Status {
-            sw1: got1,
-            sw2: got2,
-        };
-    }
-    while at < field.len() {
-        let piece = next_piece(field.len() - at, got2, sw1, sw2);
-        let end = at + piece.len;
-        got1 = piece.sw1;
-        got2 = piece.sw2;
-        show::response(&field[at..end], got1, got2);
-        put_bytes(joined, at, &field[at..end]);
-        show::get_response(got1, got2);
-        at = end;
-    }
-    Status {
-        sw1: got1,
-        sw2: got2,
+    at: usize,
+    le: u8,
+    chain: ResponseChain,
+    joined: &mut [u8],
+) -> Answered {
+    let mut bytes = [0u8; 258];
+    let given = fragment_response::fragment_response(sw1, sw2, field, at, le, &mut bytes);
+    match given {
+        ResponseFragmentAnswer::Fragment(n, next) => {
+            show::bytes(b"response APDU", first(&bytes, n));
+            let reassembly = reassemble_response::reassemble_response(
+                chain,
+                first(&bytes, n),
+                joined,
+            );
+            Answered { next, reassembly }
+        }
+        ResponseFragmentAnswer::Refused(refusal) => {
+            let reassembly = not_asked(refusal);
+            Answered {
+                next: 0,
+                reassembly,
+            }
+        }
     }
 }
 
-// How many bytes GET RESPONSE asks for.
-fn most(asked: u8) -> usize
-    ensures { λ n. ⌜ (0 < n) × (n ≤ 256) ⌝ }
-{
-    if asked == 0 {
-        return 256;
-    }
-    asked as usize
-}
-
-// Of the bytes left: at most as many as asked for.
-fn next_piece(left: usize, asked: u8, sw1: u8, sw2: u8) -> Piece
-    requires { ⌜ 0 < left ⌝ }
-    ensures { λ piece. ⌜ (0 < piece .len) × (piece .len ≤ left) ⌝ }
-{
-    let most = most(asked);
-    if left <= most {
-        return Piece {
-            len: left,
-            sw1,
-            sw2,
-        };
-    }
-    let more = left - most;
-    if more > 255 {
-        return Piece {
-            len: most,
-            sw1: 0x61,
-            sw2: 0x00,
-        };
-    }
-    Piece {
-        len: most,
-        sw1: 0x61,
-        sw2: more as u8,
+fn not_asked(refusal: Refusal) -> ResponseReassembly {
+    let chain = reassemble_response::empty_chain();
+    ResponseReassembly {
+        answer: ResponseReassemblyAnswer::Refused(refusal),
+        chain,
     }
 }

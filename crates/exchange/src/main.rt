@@ -134,27 +134,17 @@ fn send_command(ends: Ends, name: &[u8], header: Header, data: &[u8]) -> Ends {
     Ends { host, card }
 }
 
-// The field goes over the line.
+// The field goes over the line, and the card unwraps it.
 fn carry_command(card: Session, header: Header, field: &[u8]) -> Session {
-    let mut apdu = [0u8; 261];
-    let n = line::put_command(header, field, &mut apdu);
-    show::bytes(b"command APDU", first(&apdu, n));
-    receive_command(card, first(&apdu, n))
-}
-
-// The card takes an APDU apart and unwraps its field.
-fn receive_command(card: Session, apdu: &[u8]) -> Session {
+    let mut joined = [0u8; 2066];
     let mut data = [0u8; 2048];
-    if apdu.len() < 6 {
-        return card;
-    }
-    let end = apdu.len() - 1;
+    let command = line::carry_command(header, field, &mut joined);
     let unwrapped = unwrap_command::unwrap_command(
         card,
-        apdu[1],
-        apdu[2],
-        apdu[3],
-        &apdu[5..end],
+        command.ins,
+        command.p1,
+        command.p2,
+        first(&joined, command.len),
         &mut data,
     );
     let answer = unwrapped.answer;
@@ -189,12 +179,12 @@ fn send_response(ends: Ends, sw1: u8, sw2: u8, data: &[u8]) -> Ends {
 fn carry_response(host: Session, field: &[u8], sw1: u8, sw2: u8) -> Session {
     let mut joined = [0u8; 2048];
     let mut data = [0u8; 2048];
-    let status = line::carry_response(field, sw1, sw2, &mut joined);
+    let response = line::carry_response(field, sw1, sw2, &mut joined);
     let unwrapped = unwrap_response::unwrap_response(
         host,
-        status.sw1,
-        status.sw2,
-        first(&joined, field.len()),
+        response.sw1,
+        response.sw2,
+        first(&joined, response.len),
         &mut data,
     );
     let answer = unwrapped.answer;

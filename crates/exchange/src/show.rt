@@ -19,22 +19,6 @@ pub fn bytes(label: &[u8], value: &[u8]) {
     print::newline();
 }
 
-// A piece of a response: its bytes, and the status.
-pub fn response(piece: &[u8], sw1: u8, sw2: u8) {
-    print::text(b"response APDU: ");
-    hex(piece);
-    print::byte(sw1);
-    print::byte(sw2);
-    print::newline();
-}
-
-// What the host sends where the status says that there is more.
-pub fn get_response(sw1: u8, sw2: u8) {
-    if sw1 == 0x61 {
-        bytes(b"command APDU", &[0x00, 0xc0, 0x00, 0x00, sw2]);
-    }
-}
-
 pub fn le(present: bool) {
     if present {
         print::text(b"card Le: yes\n");
