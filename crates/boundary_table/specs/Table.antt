@@ -9,7 +9,8 @@ use Rattle.octets.specs.Bytes.{zeros, tabulate}
 use Rattle.field_lengths.specs.Lengths.{ciphertextLength, commandLength, responseLength}
 use Rattle.objects.specs.Objects.{encryptedData}
 use Rattle.command_chaining.specs.Apdu.{header, lc}
-use Rattle.command_chaining.specs.Fragment.{ceiling, fragmentCount, fragment as commandFragment}
+use Rattle.parts.specs.Parts.{ceiling}
+use Rattle.command_chaining.specs.Fragment.{fragmentCount, fragment as commandFragment}
 use Rattle.response_chaining.specs.Fragment.{fragmentData}
 
 -- ---- what a line asks of P bytes of data

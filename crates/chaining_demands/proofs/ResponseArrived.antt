@@ -10,7 +10,7 @@ use Rattle.octets.specs.Write.{over}
 use Rattle.protocol.specs.Message.{StatusWord}
 use Rattle.protocol.specs.Answer.{gave}
 use Rattle.protocol.proofs.Delivered.{response-short, response-least}
-use Rattle.command_chaining.specs.Fragment.{ceiling}
+use Rattle.parts.specs.Parts.{ceiling}
 use Rattle.response_chaining.specs.Fragment.{announced}
 use Rattle.response_chaining.specs.Chains.{answersTo}
 use Rattle.response_chaining.specs.declared.ResponseReassemblyAnswer.{ResponseReassemblyAnswer}

@@ -13,8 +13,8 @@ use Rattle.octets.specs.Write.{over}
 use Rattle.protocol.specs.Message.{StatusWord, maxResponseField}
 use Rattle.protocol.specs.Permission.{statusPermitted}
 use Rattle.protocol.specs.Answer.{Answer, gave, require_else_⨾_, buffer}
-use Rattle.command_chaining.specs.Fragment.{ceiling}
-use Rattle.command_chaining.proofs.Ceiling.{starts-within}
+use Rattle.parts.specs.Parts.{ceiling}
+use Rattle.parts.proofs.Ceiling.{starts-within}
 use Rattle.response_chaining.specs.Fragment.{next, fragment, fragmentResponse, fragmentAnswer}
 use Rattle.response_chaining.specs.Reassembly.{empty, reassembleResponse, reassemblyBuffer}
 use Rattle.response_chaining.specs.Chains.{leAfter, Reassembled, requests}

@@ -13,7 +13,7 @@ use Rattle.protocol.specs.Message.{maxResponseData}
 use Rattle.protocol.specs.Permission.{statusPermitted}
 use Rattle.protocol.specs.Answer.{gave}
 use Rattle.protocol.specs.HonestDelivery.{InStep}
-use Rattle.command_chaining.specs.Fragment.{ceiling}
+use Rattle.parts.specs.Parts.{ceiling}
 use Rattle.response_chaining.specs.Reassembly.{empty}
 use Rattle.response_chaining.specs.declared.ResponseReassemblyAnswer.{ResponseReassemblyAnswer}
 use Rattle.response_chaining.specs.declared.ResponseReassemblyAnswer.the-variants.{More, Whole, Refused}

@@ -8,7 +8,7 @@ use Rattle.octets.specs.Bytes.{Bytes}
 use Rattle.octets.specs.Write.{over}
 use Rattle.protocol.specs.Message.{StatusWord, maxResponseField}
 use Rattle.protocol.specs.Permission.{statusPermitted}
-use Rattle.command_chaining.specs.Fragment.{ceiling}
+use Rattle.parts.specs.Parts.{ceiling}
 use Rattle.response_chaining.specs.Fragment.{fragment}
 use Rattle.response_chaining.specs.Reassembly.{empty}
 use Rattle.response_chaining.specs.Chains.{leAfter, answersTo}

@@ -1,5 +1,4 @@
 pub mod Answers
-pub mod Ceiling
 pub mod Sizes
 pub mod WrittenApdu
 pub mod ExactShapes

@@ -23,7 +23,7 @@ use Rattle.command_chaining.specs.declared.CommandChain.{CommandChain}
 use Rattle.command_chaining.specs.declared.Reassembly.{Reassembly}
 use Rattle.command_chaining.specs.declared.ReassemblyAnswer.{ReassemblyAnswer}
 use Rattle.command_chaining.specs.declared.ReassemblyAnswer.the-variants.{More, Whole, Refused}
-use Rattle.command_chaining.proofs.Ceiling.{starts-within, below-ceiling, ends-with-last}
+use Rattle.parts.proofs.Ceiling.{starts-within, below-ceiling, ends-with-last}
 use Rattle.command_chaining.proofs.Sizes.{sized}
 use Rattle.command_chaining.proofs.TakenFragment.{taken-answer, taken-data}
 

@@ -1,10 +1,11 @@
 -- Document 01, "The wire": one fragment of a command field ("cutting"). "Command field of F bytes, piece size p (0 means 255): ⌈F/p⌉ pieces, numbered
 -- from 0." Assumes nothing.
-use Prim.Native.Nat.{ℕ, suc, _+_, _*_, _-_, _/_}
+use Prim.Native.Nat.{ℕ, suc, _*_}
 use lib.Dec.{eqb, leb, ltb}
 use lib.ListN.{length, take, drop}
 use Rattle.octets.specs.Bytes.{Bytes}
 use Rattle.octets.specs.Choice.{if_then_else_}
+use Rattle.parts.specs.Parts.{ceiling}
 use Rattle.refusal.specs.declared.Refusal.the-variants.{TooLong, BufferTooSmall, BrokenChain, FragmentTooLong}
 use Rattle.protocol.specs.Message.{maxCommandField}
 use Rattle.protocol.specs.Answer.{Answer, refused, gave, require_else_⨾_}
@@ -21,10 +22,6 @@ defaultFragment = 255
 
 unfoldable pub fragmentSize : ℕ → ℕ
 fragmentSize p = if eqb p 0 then defaultFragment else p
-
--- ⌈n / p⌉
-abbrev pub ceiling : ℕ → ℕ → ℕ
-ceiling n p = (n + (p - 1)) / p
 
 -- of a field of n bytes, with the size that was asked for
 unfoldable pub fragmentCount : ℕ → ℕ → ℕ

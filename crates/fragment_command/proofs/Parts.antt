@@ -1,32 +1,20 @@
 -- The part of a field that fragment k holds: it lies within the field, has at most 255 bytes, and is the data of the fragment's APDU.
 -- Assumes nothing.
-use mathlib.Core.Path.{_≡_, refl, sym, ap, _∙_}
+use mathlib.Core.Path.{_≡_, refl, ap}
 use mathlib.Core.Bool.{true, false}
 use Prim.Native.Nat.{ℕ, _+_, _*_, _-_, _≤_, _<_}
 use native.Mathlib.Nat.{le-mul-of-pos-right}
 use native.Mathlib.Omega.{arith}
-use lib.ListN.{length, take, drop, length-take, length-drop, take-append-drop}
-use lib.Seq.{take-append-seam}
+use lib.ListN.{length, take, drop, length-take}
 use Rattle.octets.specs.Bytes.{Bytes}
 use Rattle.command_chaining.specs.Apdu.{Header, fragmentApdu}
 use Rattle.command_chaining.specs.Fragment.{fragmentSize, fragmentCount, fragment}
-use Rattle.command_chaining.proofs.Ceiling.{starts-within}
+use Rattle.parts.proofs.Ceiling.{starts-within}
+use Rattle.parts.proofs.PartEnds.{ends-within, part-bytes}
 use Rattle.command_chaining.proofs.Sizes.{sized}
 use Rattle.fragment_command.specs.FragmentPart.{fragmentPart}
 use Rattle.fragment_command.specs.declared.Part.{Part}
 use Rattle.fragment_command.proofs.Apdus.{length-apdu-last, length-apdu-chained}
-
--- ---- at most so many bytes from an index on: where they end
-
-module _ (field : Bytes) (most start : ℕ) (within : start ≤ length field) where
-  pub full-part : most < length field - start → start + most ≡ start + length (take most (drop start field))
-  full-part h = simp (length-take, length-drop) (omega arith)
-
-  pub rest-part : length field - start ≤ most → length field ≡ start + length (take most (drop start field))
-  rest-part h = simp (length-take, length-drop) (omega arith)
-
-  ends-within : start + length (take most (drop start field)) ≤ length field
-  ends-within = simp (length-take, length-drop) (omega arith)
 
 -- ---- where fragment k starts
 
@@ -41,23 +29,19 @@ module _ (field : Bytes) (p k : ℕ) (small : p ≤ 255) (numbered : k < fragmen
 
 -- ---- the part, as the code found it
 
-take-its-length : (n : ℕ) (l : Bytes) → take (length (take n l)) l ≡ take n l
-take-its-length n l = ap (take (length (take n l))) (sym (take-append-drop n l)) ∙ take-append-seam (take n l) (drop n l)
-
 module _ (field : Bytes) (p k : ℕ) (part : Part) (e : part ≡ fragmentPart field p k) where
   pub part-order : part .start ≤ part .end
   part-order = rw e (omega arith)
 
   pub part-within : p ≤ 255 → k < fragmentCount (length field) p → part .end ≤ length field
-  part-within small numbered = rw e (ends-within field (fragmentSize p) (k * fragmentSize p) (omega (arith, starts-in field p k small numbered (fragmentSize p) refl)))
+  part-within small numbered = rw e (ends-within field (k * fragmentSize p) (fragmentSize p) (omega (arith, starts-in field p k small numbered (fragmentSize p) refl)))
 
-  part-bytes : take (part .end - part .start) (drop (part .start) field) ≡ take (fragmentSize p) (drop (k * fragmentSize p) field)
-  part-bytes =
-      let n : part .end - part .start ≡ length (take (fragmentSize p) (drop (k * fragmentSize p) field)) = rw e (omega arith) in
-      rw (n, ap (λ (q : Part). q .start) e) (take-its-length (fragmentSize p) (drop (k * fragmentSize p) field))
+  part-is : take (part .end - part .start) (drop (part .start) field) ≡ take (fragmentSize p) (drop (k * fragmentSize p) field)
+  part-is =
+      rw (ap (λ (q : Part). q .start) e) (part-bytes field (k * fragmentSize p) (fragmentSize p) (part .end) (ap (λ (q : Part). q .end) e))
 
   pub length-part : length (take (part .end - part .start) (drop (part .start) field)) ≡ part .end - part .start
-  length-part = rw (part-bytes, e) (omega arith)
+  length-part = rw (part-is, e) (omega arith)
 
   pub short-part : p ≤ 255 → part .end - part .start ≤ 255
   short-part small = rw e (omega (arith, sized p small .small, length-take (fragmentSize p) (drop (k * fragmentSize p) field)))
@@ -65,7 +49,7 @@ module _ (field : Bytes) (p k : ℕ) (part : Part) (e : part ≡ fragmentPart fi
   module _ (h : Header) where
     pub part-apdu : fragmentApdu (part .last) h (take (part .end - part .start) (drop (part .start) field)) ≡ fragment h field p k
     unfolding fragment
-    part-apdu = rw (part-bytes, e)
+    part-apdu = rw (part-is, e)
 
     pub length-last : part .last ≡ true → 6 + (part .end - part .start) ≡ length (fragment h field p k)
     length-last l = omega (arith, length-part, length-apdu-last (part .last) h (take (part .end - part .start) (drop (part .start) field)) l, ap length part-apdu)

@@ -2,10 +2,11 @@
 use command_chaining::FragmentAnswer;
 use octets::put_byte;
 use octets::put_bytes;
+use parts::part_end;
 use refusal::Refusal;
 ghost use mathlib.Core.Path.{_≡_};
 ghost use Prim.Native.Nat.{_+_, _<_, _≤_};
-ghost use lib.ListN.{length, take, drop};
+ghost use lib.ListN.{length};
 ghost use Rattle.octets.specs.Write.{Wrote};
 ghost use Rattle.protocol.specs.Answer.{buffer};
 ghost use Rattle.command_chaining.specs.Apdu.{Header, header, commandApdu, fragmentApdu};
@@ -49,17 +50,6 @@ fn fragment_count(n: usize, size: usize) -> usize
     (n + (most - 1)) / most
 }
 
-// The index behind the data of a fragment that starts at index `start`: the last one may have less than the others.
-fn fragment_end(field: &[u8], most: usize, start: usize) -> usize
-    requires { ⌜ start ≤ length (now field) ⌝ }
-    ensures { λ end. ⌜ end ≡ start + length (take most (drop start (now (field .entry)))) ⌝ }
-{
-    if most < field.len() - start {
-        return start + most;
-    }
-    field.len()
-}
-
 // The data of fragment `number`, from index `start` up to `end`, and whether it is the last. The number was tested before: the product could overflow.
 fn fragment_part(field: &[u8], size: usize, number: usize) -> Part
     requires { ⌜ (length (now field) ≤ 2066) × (size ≤ 255) × (number < fragmentCount (length (now field)) size) ⌝ }
@@ -68,7 +58,7 @@ fn fragment_part(field: &[u8], size: usize, number: usize) -> Part
     let count = fragment_count(field.len(), size);
     let most = fragment_size(size);
     let start = number * most;
-    let end = fragment_end(field, most, start);
+    let end = part_end(field, start, most);
     Part {
         start,
         end,

@@ -1,16 +1,16 @@
 -- The part of a field that a fragment holds: it lies within the field, and with the status word it is the fragment.
 -- Assumes nothing.
-use mathlib.Core.Path.{_≡_, refl, sym, ap, _∙_}
+use mathlib.Core.Path.{_≡_, refl}
 use mathlib.Core.Bool.{Bool, true, false}
 use mathlib.Core.List.{[], _∷_, _++_}
 use Prim.Native.Nat.{ℕ, _+_, _-_, _≤_, _<_}
 use native.Mathlib.Omega.{arith}
 use borrow.Author.Tests.{eq-eqb, ne-eqb}
 use lib.Dec.{eqb}
-use lib.ListN.{length, take, drop, length-append, length-take, length-drop, take-append-drop}
-use lib.Seq.{take-append-seam}
+use lib.ListN.{length, take, drop, length-append}
 use Rattle.octets.specs.Bytes.{Bytes}
 use Rattle.octets.specs.Choice.{if_then_else_}
+use Rattle.parts.proofs.PartEnds.{ends-within, part-bytes}
 use Rattle.protocol.specs.Message.{StatusWord}
 use Rattle.response_chaining.specs.Fragment.{moreSw1, asked, announced, fragmentData, fragmentStatus, next, fragment}
 
@@ -35,18 +35,6 @@ module _ (sw : StatusWord) (n : ℕ) where
 
 -- ---- where the data ends
 
-module _ (field : Bytes) (at le most : ℕ) (within : at ≤ length field) (m : most ≡ asked le) where
-  pub full-part : most < length field - at → at + most ≡ next field at le
-  unfolding next fragmentData
-  full-part h = rw (sym m) (simp (length-take, length-drop) (omega arith))
-
-  pub rest-part : length field - at ≤ most → length field ≡ next field at le
-  unfolding next fragmentData
-  rest-part h = rw (sym m) (simp (length-take, length-drop) (omega arith))
-
-take-its-length : (n : ℕ) (l : Bytes) → take (length (take n l)) l ≡ take n l
-take-its-length n l = ap (take (length (take n l))) (sym (take-append-drop n l)) ∙ take-append-seam (take n l) (drop n l)
-
 module _ (field : Bytes) (at le end : ℕ) (e : end ≡ next field at le) where
   length-data : end ≡ at + length (fragmentData field at le)
   unfolding next
@@ -57,20 +45,19 @@ module _ (field : Bytes) (at le end : ℕ) (e : end ≡ next field at le) where
 
   pub part-within : at ≤ length field → end ≤ length field
   unfolding fragmentData
-  part-within h = rw length-data (simp (length-take, length-drop) (omega arith))
+  part-within h = rw length-data (ends-within field at (asked le) h)
 
-  part-bytes : take (end - at) (drop at field) ≡ fragmentData field at le
+  part-is : take (end - at) (drop at field) ≡ fragmentData field at le
   unfolding fragmentData
-  part-bytes =
-      let n : end - at ≡ length (take (asked le) (drop at field)) = omega (arith, length-data) in
-      rw n (take-its-length (asked le) (drop at field))
+  part-is =
+      part-bytes field at (asked le) end length-data
 
   -- ---- the fragment
 
   module _ (sw : StatusWord) where
     pub part-fragment : take (end - at) (drop at field) ++ fragmentStatus sw (length field - end) ≡ fragment sw field at le
     unfolding fragment
-    part-fragment = rw (part-bytes, e)
+    part-fragment = rw (part-is, e)
 
     pub length-fragment : end - at + 2 ≡ length (fragment sw field at le)
     unfolding fragment

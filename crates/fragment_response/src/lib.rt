@@ -1,5 +1,6 @@
 // The card fragments a response field: one fragment with its status word a call (document 01, "The wire"; ISO/IEC 7816-4).
 use octets::put_bytes;
+use parts::part_end;
 use permission::status_permitted;
 use refusal::Refusal;
 use response_chaining::ResponseFragmentAnswer;
@@ -31,11 +32,7 @@ fn next(field: &[u8], at: usize, le: u8) -> usize
     requires { ⌜ at ≤ length (now field) ⌝ }
     ensures { λ end. ⌜ end ≡ next (now (field .entry)) at le ⌝ }
 {
-    let most = asked(le);
-    if most < field.len() - at {
-        return at + most;
-    }
-    field.len()
+    part_end(field, at, asked(le))
 }
 
 // The first refusal, 3, 4, 14 or 6, or the length of the fragment, which a buffer of `room` bytes holds, and the index behind its data.

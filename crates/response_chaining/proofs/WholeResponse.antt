@@ -19,8 +19,8 @@ use Rattle.octets.proofs.Tabulate.{tabulate-ext}
 use Rattle.octets.proofs.Writing.{over-nil, length-over, put-over}
 use Rattle.protocol.specs.Message.{StatusWord, status, maxResponseField}
 use Rattle.protocol.specs.Permission.{statusPermitted}
-use Rattle.command_chaining.specs.Fragment.{ceiling}
-use Rattle.command_chaining.proofs.Ceiling.{starts-within, below-ceiling, ends-with-last}
+use Rattle.parts.specs.Parts.{ceiling}
+use Rattle.parts.proofs.Ceiling.{starts-within, below-ceiling, ends-with-last}
 use Rattle.response_chaining.specs.Fragment.{moreSw1, asked, announced, fragmentData, fragmentStatus, next, fragment}
 use Rattle.response_chaining.specs.Reassembly.{empty, chain, possible, taken, reassembleResponse, reassemblyBuffer}
 use Rattle.response_chaining.specs.Chains.{Reassembled, leAfter, requests, answersTo, Reassembles}

@@ -10,7 +10,7 @@ use Rattle.octets.specs.Write.{over}
 use Rattle.refusal.specs.declared.Refusal.the-variants.{Malformed, BrokenChain}
 use Rattle.protocol.specs.Message.{StatusWord, maxResponseField}
 use Rattle.protocol.specs.Permission.{statusPermitted}
-use Rattle.command_chaining.specs.Fragment.{ceiling}
+use Rattle.parts.specs.Parts.{ceiling}
 use Rattle.response_chaining.specs.Fragment.{announced, next, fragment}
 use Rattle.response_chaining.specs.Reassembly.{wellFormed, empty, possible, reassembleResponse, reassemblyBuffer}
 use Rattle.response_chaining.specs.declared.ResponseChain.{ResponseChain}

@@ -13,14 +13,14 @@ mul-start c =
     let h = c .before .before .before .pre in
     omega (arith, starts-in (a .field .now) (a .size) (a .number) (h .1) (h .2) _ (c .fragment-size .ensures), number-in (a .field .now) (a .size) (a .number) (h .1) (h .2))
 
-fragment-end-requires : tie.Need-fragment-end-requires
-fragment-end-requires c κs =
+part-end-requires : tie.Need-part-end-requires
+part-end-requires c κs =
     let a = c .before .before .before .args in
     let h = c .before .before .before .pre in
     omega (arith, starts-in (a .field .now) (a .size) (a .number) (h .1) (h .2) _ (c .fragment-size .ensures))
 
 returns : tie.Need-returns
-returns c = simp (c .fragment-end .ensures, c .before .fragment-size .ensures, c .before .before .fragment-count .ensures, add-one)
+returns c = simp (c .part-end .ensures, c .before .fragment-size .ensures, c .before .before .fragment-count .ensures, add-one)
 
 pub fragment-part-spec : {M : Type 1} → statement M
 fragment-part-spec =
@@ -29,6 +29,6 @@ fragment-part-spec =
     (λ c κs. search needs)
     (λ c κs. search needs)
     mul-start
-    fragment-end-requires
+    part-end-requires
     (λ c. search needs)
     returns)

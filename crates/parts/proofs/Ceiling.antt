@@ -4,7 +4,7 @@ use mathlib.Core.Path.{_≡_}
 use Prim.Native.Nat.{ℕ, suc, _+_, _*_, _-_, _≤_, _<_}
 use native.Mathlib.Nat.{suc-mul, le-div-iff-mul-le, div-lt-iff-lt-mul}
 use native.Mathlib.Omega.{arith}
-use Rattle.command_chaining.specs.Fragment.{ceiling}
+use Rattle.parts.specs.Parts.{ceiling}
 
 module _ (n p k : ℕ) (positive : 0 < p) where
   pub starts-within : k < ceiling n p → k * p < n
