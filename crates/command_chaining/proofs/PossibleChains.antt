@@ -120,9 +120,9 @@ unfolding reassembleCommand reassemblyChecks require_else_⨾_ concluded
 others-are-refused c apdu room e = go (wellFormed apdu)
   where
     go : (formed : Bool) → concluded c apdu (require formed else Malformed ⨾
-      require possible c && continues c (headerOf apdu) else BrokenChain ⨾
-      require leb (total c apdu) maxCommandField else TooLong ⨾
-      require leb (total c apdu) room else BufferTooSmall (total c apdu) ⨾
-      gave tt) .answer ≡ Refused (if formed then BrokenChain else Malformed)
+        require possible c && continues c (headerOf apdu) else BrokenChain ⨾
+        require leb (total c apdu) maxCommandField else TooLong ⨾
+        require leb (total c apdu) room else BufferTooSmall (total c apdu) ⨾
+        gave tt) .answer ≡ Refused (if formed then BrokenChain else Malformed)
     go true = rw e
     go false = refl

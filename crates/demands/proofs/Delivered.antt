@@ -77,6 +77,8 @@ opens-in-step h c hostOpened cardOpened same =
     let K = hostKeys h in
     let host : opening Host (h .args .0) K ≡ h .result = sym (h .met .0) in
     let card : opening Card (c .args .0) K ≡ c .result = ap (opening Card (c .args .0)) (sym same) ∙ sym (c .met .0) in
-    let d = demand2-openings (h .args .0) (c .args .0) K (h .met .1) (ap (λ (o : Opened). o .answer) host ∙ hostOpened) (ap (λ (o : Opened). o .answer) card ∙ cardOpened) in
-    (subst (λ (o : Opened). InStep Ready (o .session) (c .result .session)) host
-    (subst (λ (o : Opened). InStep Ready (opening Host (h .args .0) K .session) (o .session)) card (d .0)), ap (λ (o : Opened). o .session .count) (sym host) ∙ d .1 .1)
+    let d = demand2-openings (h .args .0) (c .args .0) K (h .met .1) (ap (λ (o : Opened). o .answer) host ∙ hostOpened) (ap (λ (o : Opened). o .answer) card ∙ cardOpened) in (
+      subst (λ (o : Opened). InStep Ready (o .session) (c .result .session)) host
+          (subst (λ (o : Opened). InStep Ready (opening Host (h .args .0) K .session) (o .session)) card (d .0)),
+      ap (λ (o : Opened). o .session .count) (sym host) ∙ d .1 .1,
+    )

@@ -82,9 +82,9 @@ unfolding reassembleResponse reassemblyChecks require_else_⨾_ concluded
 others-are-refused c bytes room e = go (wellFormed bytes)
   where
     go : (formed : Bool) → concluded c bytes (require formed else Malformed ⨾
-      require possible c else BrokenChain ⨾
-      require leb (total c bytes) maxResponseField else TooLong ⨾
-      require leb (total c bytes) room else BufferTooSmall (total c bytes) ⨾
-      gave tt) .answer ≡ Refused (if formed then BrokenChain else Malformed)
+        require possible c else BrokenChain ⨾
+        require leb (total c bytes) maxResponseField else TooLong ⨾
+        require leb (total c bytes) room else BufferTooSmall (total c bytes) ⨾
+        gave tt) .answer ≡ Refused (if formed then BrokenChain else Malformed)
     go true = rw e
     go false = refl
