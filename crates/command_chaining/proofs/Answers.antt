@@ -7,11 +7,14 @@ use mathlib.Core.List.{List, [], _∷_, _++_}
 use Prim.Native.Nat.{ℕ}
 use lib.ListN.{length}
 use Rattle.octets.specs.Bytes.{Bytes, zeros}
+use Rattle.octets.specs.Write.{put}
 use Rattle.refusal.specs.Refusal.{number, extra}
+use Rattle.refusal.specs.declared.Refusal.the-variants.{FragmentTooLong}
 use Rattle.protocol.specs.Answer.{Answer, refused, gave, require_else_⨾_}
 use Rattle.command_chaining.specs.Apdu.{Header, header, commandApdu, fragmentApdu, isChained, isLast, wellFormed}
-use Rattle.command_chaining.specs.Fragment.{fragmentSize, fragmentCount, fragment, fragmentCommand}
-use Rattle.command_chaining.specs.Reassembly.{empty, chain, possible, continues, reassemblyChecks, taken, concluded, reassembleCommand}
+use Rattle.command_chaining.specs.Fragment.{fragmentSize, fragmentCount, fragment, fragmentCommand, fragmentAnswer}
+use Rattle.command_chaining.specs.Reassembly.{empty, chain, possible, continues, reassemblyChecks, taken, concluded, reassembleCommand, written, reassemblyBuffer}
+use Rattle.command_chaining.specs.declared.FragmentAnswer.the-variants.{Fragment, Refused as NotFragmented}
 use Rattle.command_chaining.specs.declared.CommandChain.{CommandChain}
 use Rattle.command_chaining.specs.declared.ReassemblyAnswer.{ReassemblyAnswer}
 use Rattle.command_chaining.specs.declared.ReassemblyAnswer.the-variants.{More, Whole, Refused}
@@ -54,12 +57,15 @@ fragment-answers :
 unfolding fragmented h fragmentCommand require_else_⨾_ fragmentSize fragmentCount fragment fragmentApdu
 fragment-answers = refl
 
--- the bytes of the fragments of three bytes by two
+-- the bytes of the fragments of three bytes by two, and what a function gives of them
 fragment-bytes :
-    fragment (header 0x20 0x00 0x80) (7 ∷ 8 ∷ 9 ∷ []) 2 0 ∷ fragment (header 0x20 0x00 0x80) (7 ∷ 8 ∷ 9 ∷ []) 2 1 ∷ []
-    ≡ (0x1C ∷ 0x20 ∷ 0x00 ∷ 0x80 ∷ 2 ∷ 7 ∷ 8 ∷ []) ∷ (0x0C ∷ 0x20 ∷ 0x00 ∷ 0x80 ∷ 1 ∷ 9 ∷ 0x00 ∷ []) ∷ []
-unfolding fragmentSize fragmentCount fragment fragmentApdu
+    fragmentCommand (header 0x20 0x00 0x80) (7 ∷ 8 ∷ 9 ∷ []) 2 0 7 ∷ fragmentCommand (header 0x20 0x00 0x80) (7 ∷ 8 ∷ 9 ∷ []) 2 1 7 ∷ []
+    ≡ gave (0x1C ∷ 0x20 ∷ 0x00 ∷ 0x80 ∷ 2 ∷ 7 ∷ 8 ∷ []) ∷ gave (0x0C ∷ 0x20 ∷ 0x00 ∷ 0x80 ∷ 1 ∷ 9 ∷ 0x00 ∷ []) ∷ []
+unfolding fragmentCommand require_else_⨾_ fragmentSize fragmentCount fragment fragmentApdu
 fragment-bytes = refl
+
+fragment-given : fragmentAnswer (gave (1 ∷ 2 ∷ 3 ∷ [])) ∷ fragmentAnswer (refused FragmentTooLong) ∷ [] ≡ Fragment 3 ∷ NotFragmented FragmentTooLong ∷ []
+fragment-given = refl
 
 -- ---- reassembling: the answer's numbers, and the chain
 
@@ -75,8 +81,8 @@ answered r = answer (r .answer) ++ r .chain .len ∷ r .chain .ins ∷ r .chain 
 more : ℕ → ℕ → ℕ → Bytes
 more ins p1 p2 = fragmentApdu false (header ins p1 p2) (5 ∷ [])
 
-last : Bytes
-last = fragmentApdu true (header 1 2 3) (5 ∷ [])
+last : ℕ → ℕ → ℕ → Bytes
+last ins p1 p2 = fragmentApdu true (header ins p1 p2) (5 ∷ [])
 
 -- a chain of n bytes, and one that no fragments lead to
 part : ℕ → CommandChain
@@ -120,9 +126,15 @@ chain-answers :
     ∷ answered (reassembleCommand (part 2066) (more 1 2 3) 0)
     ∷ answered (reassembleCommand (part 2065) (more 1 2 3) 2065)
     ∷ answered (reassembleCommand (part 2065) (more 1 2 3) 2066)
-    ∷ answered (reassembleCommand (part 2065) last 2066)
+    ∷ answered (reassembleCommand (part 2065) (last 1 2 3) 2066)
     ∷ answered (reassembleCommand empty (more 9 8 7) 1)
-    ∷ answered (reassembleCommand empty last 1)
+    ∷ answered (reassembleCommand empty (last 1 2 3) 1)
+    ∷ answered (reassembleCommand (part 1) (more 9 2 3) 9)
+    ∷ answered (reassembleCommand (part 1) (last 9 2 3) 9)
+    ∷ answered (reassembleCommand (part 1) (last 1 9 3) 9)
+    ∷ answered (reassembleCommand (part 1) (last 1 2 9) 9)
+    ∷ answered (reassembleCommand (part 2066) (last 1 2 3) 2066)
+    ∷ answered (reassembleCommand (part 2065) (last 1 2 3) 2065)
     ∷ []
     ≡ (14 ∷ 0 ∷ 0 ∷ 0 ∷ 0 ∷ 0 ∷ [])
     ∷ (14 ∷ 0 ∷ 0 ∷ 0 ∷ 0 ∷ 0 ∷ [])
@@ -135,6 +147,23 @@ chain-answers :
     ∷ (0 ∷ 2066 ∷ 1 ∷ 2 ∷ 3 ∷ 0 ∷ 0 ∷ 0 ∷ 0 ∷ [])
     ∷ (0 ∷ 1 ∷ 0x90 ∷ 0x00 ∷ 1 ∷ 9 ∷ 8 ∷ 7 ∷ [])
     ∷ (0 ∷ 1 ∷ 1 ∷ 2 ∷ 3 ∷ 0 ∷ 0 ∷ 0 ∷ 0 ∷ [])
+    ∷ (14 ∷ 0 ∷ 0 ∷ 0 ∷ 0 ∷ 0 ∷ [])
+    ∷ (14 ∷ 0 ∷ 0 ∷ 0 ∷ 0 ∷ 0 ∷ [])
+    ∷ (14 ∷ 0 ∷ 0 ∷ 0 ∷ 0 ∷ 0 ∷ [])
+    ∷ (14 ∷ 0 ∷ 0 ∷ 0 ∷ 0 ∷ 0 ∷ [])
+    ∷ (4 ∷ 0 ∷ 0 ∷ 0 ∷ 0 ∷ 0 ∷ [])
+    ∷ (6 ∷ 2066 ∷ 0 ∷ 0 ∷ 0 ∷ 0 ∷ [])
     ∷ []
 unfolding answered answer part impossible more last reassembleCommand concluded taken reassemblyChecks require_else_⨾_ possible continues wellFormed isChained isLast fragmentApdu
 chain-answers = refl
+
+-- ---- the caller's buffer: data behind what stands there; at a refusal it stays
+buffers :
+    reassemblyBuffer (part 2) (more 1 2 3) (7 ∷ 8 ∷ 9 ∷ 6 ∷ [])
+    ∷ reassemblyBuffer empty (last 1 2 3) (7 ∷ 8 ∷ [])
+    ∷ reassemblyBuffer (part 2) (more 1 2 9) (7 ∷ 8 ∷ 9 ∷ 6 ∷ [])
+    ∷ reassemblyBuffer (part 2) (more 1 2 3) (7 ∷ 8 ∷ [])
+    ∷ []
+    ≡ (7 ∷ 8 ∷ 5 ∷ 6 ∷ []) ∷ (5 ∷ 8 ∷ []) ∷ (7 ∷ 8 ∷ 9 ∷ 6 ∷ []) ∷ (7 ∷ 8 ∷ []) ∷ []
+unfolding part more last reassemblyBuffer written put reassemblyChecks require_else_⨾_ possible continues wellFormed isChained isLast fragmentApdu
+buffers = refl

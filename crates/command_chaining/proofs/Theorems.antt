@@ -1,9 +1,9 @@
 -- What holds of command chaining, of the definitions. Each statement stands in specs/Chains.
 -- Assumes nothing.
-use Rattle.command_chaining.specs.Chains.{ExactShapes, WrittenAreWellFormed, Reassembles, ReachedArePossible, PossibleAreReached, OthersAreRefused}
+use Rattle.command_chaining.specs.Chains.{ExactShapes, WrittenAreWellFormed, Reassembles, ReachedArePossible, PossibleAreReached, LeavesPossible, OthersAreRefused}
 use Rattle.command_chaining.proofs.ExactShapes.{exact-shapes, written-are-well-formed}
 use Rattle.command_chaining.proofs.WholeCommand.{reassembles}
-use Rattle.command_chaining.proofs.PossibleChains.{reached-are-possible, possible-are-reached, others-are-refused}
+use Rattle.command_chaining.proofs.PossibleChains.{leaves-possible, reached-are-possible, possible-are-reached, others-are-refused}
 
 pub shapes : ExactShapes
 shapes = exact-shapes
@@ -13,6 +13,9 @@ shapes-written = written-are-well-formed
 
 pub whole-command : Reassembles
 whole-command = reassembles
+
+pub leaves : LeavesPossible
+leaves = leaves-possible
 
 pub reached-possible : ReachedArePossible
 reached-possible = reached-are-possible

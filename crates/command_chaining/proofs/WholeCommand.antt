@@ -16,7 +16,7 @@ use Rattle.octets.proofs.Tests.{and-intro}
 use Rattle.octets.proofs.Writing.{over-nil, length-over, put-over}
 use Rattle.protocol.specs.Message.{maxCommandField}
 use Rattle.command_chaining.specs.Apdu.{Header, fragmentApdu}
-use Rattle.command_chaining.specs.Fragment.{maxFragment, fragmentSize, fragmentCount, fragment}
+use Rattle.command_chaining.specs.Fragment.{longestField, maxFragment, fragmentSize, fragmentCount, fragment}
 use Rattle.command_chaining.specs.Reassembly.{empty, chain, possible, continues, taken, reassembleCommand, reassemblyBuffer}
 use Rattle.command_chaining.specs.Chains.{fragments, Reassembled, reassembleAll, answersTo, Reassembles}
 use Rattle.command_chaining.specs.declared.CommandChain.{CommandChain}
@@ -70,7 +70,7 @@ holds-some h n some short =
       follows = rw (ne-eqb n 0 (λ e. omega arith), eq-eqb (h .ins) (h .ins) refl, eq-eqb (h .p1) (h .p1) refl, eq-eqb (h .p2) (h .p2) refl);
     }
 
-module _ (h : Header) (field : Bytes) (p : ℕ) (held : Bytes) (short : length field ≤ maxCommandField) (asked : p ≤ maxFragment)
+module _ (h : Header) (field : Bytes) (p : ℕ) (held : Bytes) (short : length field ≤ longestField) (asked : p ≤ maxFragment)
     (fits : length field ≤ length held) where
   -- what m more fragments and then the last give, after k of them
   abbrev left : ℕ → ℕ → Reassembled

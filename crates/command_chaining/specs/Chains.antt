@@ -8,9 +8,8 @@ use Rattle.octets.specs.Bytes.{Bytes, tabulate}
 use Rattle.octets.specs.Choice.{if_then_else_}
 use Rattle.octets.specs.Write.{over}
 use Rattle.refusal.specs.declared.Refusal.the-variants.{Malformed, BrokenChain}
-use Rattle.protocol.specs.Message.{maxCommandField}
 use Rattle.command_chaining.specs.Apdu.{Header, fragmentApdu, headerOf, dataOf, isLast, wellFormed}
-use Rattle.command_chaining.specs.Fragment.{maxFragment, fragmentSize, fragmentCount, fragment}
+use Rattle.command_chaining.specs.Fragment.{longestField, maxFragment, fragmentSize, fragmentCount, fragment}
 use Rattle.command_chaining.specs.Reassembly.{empty, possible, reassembleCommand, reassemblyBuffer}
 use Rattle.command_chaining.specs.declared.CommandChain.{CommandChain}
 use Rattle.command_chaining.specs.declared.ReassemblyAnswer.{ReassemblyAnswer}
@@ -56,7 +55,7 @@ answersTo h n p =
 abbrev pub Reassembles : Type 0
 Reassembles =
     (h : Header) (field : Bytes) (p : ℕ) (held : Bytes)
-    → 1 ≤ length field → length field ≤ maxCommandField → p ≤ maxFragment → length field ≤ length held
+    → 1 ≤ length field → length field ≤ longestField → p ≤ maxFragment → length field ≤ length held
     → reassembleAll empty held (fragments h field p)
     ≡ record { answers = answersTo h (length field) p; chain = empty; held = over held field }
 
@@ -67,7 +66,11 @@ pub data Reached : CommandChain → Type 0 where
   more : (c : CommandChain) (apdu : Bytes) (room n sw1 sw2 : ℕ) → Reached c → reassembleCommand c apdu room .answer ≡ More n sw1 sw2
       → Reached (reassembleCommand c apdu room .chain)
 
--- they are the possible ones
+-- every call leaves a possible chain, whatever it was given
+abbrev pub LeavesPossible : Type 0
+LeavesPossible = (c : CommandChain) (apdu : Bytes) (room : ℕ) → possible (reassembleCommand c apdu room .chain) ≡ true
+
+-- the chains that are reached are the possible ones
 abbrev pub ReachedArePossible : Type 0
 ReachedArePossible = (c : CommandChain) → Reached c → possible c ≡ true
 

@@ -7,11 +7,14 @@ use Rattle.octets.specs.Bytes.{Bytes}
 use Rattle.octets.specs.Choice.{if_then_else_}
 use Rattle.parts.specs.Parts.{ceiling}
 use Rattle.refusal.specs.declared.Refusal.the-variants.{TooLong, BufferTooSmall, BrokenChain, FragmentTooLong}
-use Rattle.protocol.specs.Message.{maxCommandField}
 use Rattle.protocol.specs.Answer.{Answer, refused, gave, require_else_⨾_}
 use Rattle.command_chaining.specs.Apdu.{Header, fragmentApdu}
 use Rattle.command_chaining.specs.declared.FragmentAnswer.{FragmentAnswer}
 use Rattle.command_chaining.specs.declared.FragmentAnswer.the-variants.{Fragment, Refused}
+
+-- the longest field that is wrapped; how long a field may be that is read is another limit
+abbrev pub longestField : ℕ
+longestField = 2066
 
 -- the largest fragment, and the one that 0 asks for
 abbrev pub maxFragment : ℕ
@@ -35,7 +38,7 @@ fragment h field p k =
 unfoldable pub fragmentCommand : Header → Bytes → ℕ → ℕ → ℕ → Answer Bytes
 fragmentCommand h field p k room =
     require leb p maxFragment else FragmentTooLong ⨾
-    require leb (length field) maxCommandField else TooLong ⨾
+    require leb (length field) longestField else TooLong ⨾
     require ltb k (fragmentCount (length field) p) else BrokenChain ⨾
     require leb (length (fragment h field p k)) room else BufferTooSmall (length (fragment h field p k)) ⨾
     gave (fragment h field p k)

@@ -47,7 +47,7 @@ taken h n last =
     then record { answer = Whole n (h .ins) (h .p1) (h .p2); chain = empty }
     else record { answer = More n 0x90 0x00; chain = chain h n }
 
--- any refusal drops what was joined
+-- "any refusal drops what was joined"
 unfoldable pub concluded : CommandChain → Bytes → Answer (Unit {0}) → Reassembly
 concluded c apdu (refused r) = record { answer = Refused r; chain = empty }
 concluded c apdu (gave passed) = taken (headerOf apdu) (total c apdu) (isLast apdu)
