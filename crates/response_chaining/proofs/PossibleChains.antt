@@ -47,7 +47,7 @@ module _ (c : ResponseChain) (bytes : Bytes) (room : ℕ) where
   concluded-possible (refused r) e = possible-up-to 0 (omega arith)
   concluded-possible (gave tt) e = passed-possible e
 
-  leaves-possible : possible (reassembleResponse c bytes room .chain) ≡ true
+  pub leaves-possible : possible (reassembleResponse c bytes room .chain) ≡ true
   unfolding reassembleResponse
   leaves-possible = concluded-possible (reassemblyChecks c bytes room) refl
 

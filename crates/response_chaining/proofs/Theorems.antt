@@ -1,11 +1,21 @@
 -- What holds of response chaining, of the definitions. Each statement stands in specs/Chains.
 -- Assumes nothing.
-use Rattle.response_chaining.specs.Chains.{Reassembles, ReachedArePossible, PossibleAreReached, OthersAreRefused}
+use Rattle.response_chaining.specs.Chains.{ExactShapes, WrittenAreWellFormed, Reassembles, ReachedArePossible, PossibleAreReached, LeavesPossible, OthersAreRefused}
+use Rattle.response_chaining.proofs.ExactShapes.{exact-shapes, written-are-well-formed}
 use Rattle.response_chaining.proofs.WholeResponse.{reassembles}
-use Rattle.response_chaining.proofs.PossibleChains.{reached-are-possible, possible-are-reached, others-are-refused}
+use Rattle.response_chaining.proofs.PossibleChains.{leaves-possible, reached-are-possible, possible-are-reached, others-are-refused}
+
+pub shapes : ExactShapes
+shapes = exact-shapes
+
+pub shapes-written : WrittenAreWellFormed
+shapes-written = written-are-well-formed
 
 pub whole-response : Reassembles
 whole-response = reassembles
+
+pub leaves : LeavesPossible
+leaves = leaves-possible
 
 pub reached-possible : ReachedArePossible
 reached-possible = reached-are-possible

@@ -21,8 +21,8 @@ use Rattle.protocol.specs.Message.{StatusWord, status, maxResponseField}
 use Rattle.protocol.specs.Permission.{statusPermitted}
 use Rattle.parts.specs.Parts.{ceiling}
 use Rattle.parts.proofs.Ceiling.{starts-within, below-ceiling, ends-with-last}
-use Rattle.response_chaining.specs.Fragment.{moreSw1, asked, announced, fragmentData, fragmentStatus, next, fragment}
-use Rattle.response_chaining.specs.Reassembly.{empty, chain, possible, taken, reassembleResponse, reassemblyBuffer}
+use Rattle.response_chaining.specs.Fragment.{longestField, moreSw1, asked, announced, fragmentData, fragmentStatus, next, fragment}
+use Rattle.response_chaining.specs.Reassembly.{empty, chain, possible, taken, reassembleResponse, reassemblyBuffer, getResponse}
 use Rattle.response_chaining.specs.Chains.{Reassembled, leAfter, requests, answersTo, Reassembles}
 use Rattle.response_chaining.specs.declared.ResponseChain.{ResponseChain}
 use Rattle.response_chaining.specs.declared.ResponseReassembly.{ResponseReassembly}
@@ -39,7 +39,7 @@ one-more : (sw : StatusWord) (field : Bytes) (n at le : ℕ) (c : ResponseChain)
 unfolding requests
 one-more sw field n at le c held bytes r behind held' rest b e f g h = rw (b, e, f, g, h)
 
-module _ (sw : StatusWord) (field held : Bytes) (permitted : statusPermitted sw ≡ true) (short : length field ≤ maxResponseField)
+module _ (sw : StatusWord) (field held : Bytes) (permitted : statusPermitted sw ≡ true) (short : length field ≤ longestField)
     (fits : length field ≤ length held) where
   abbrev part : ℕ → Bytes
   part k = take 256 (drop (k * 256) field)
@@ -130,7 +130,7 @@ module _ (sw : StatusWord) (field held : Bytes) (permitted : statusPermitted sw 
     next-one : (m : ℕ) → suc k < ceiling (length field) 256
         → requests sw field (suc m) (suc k * 256) (announced (length field - suc k * 256)) (chain (suc k * 256)) (over held (take (suc k * 256) field)) ≡ left m (suc k)
         → requests sw field (suc (suc m)) (k * 256) le (chain (k * 256)) (over held (take (k * 256) field)) ≡ left (suc m) k
-    unfolding taken
+    unfolding taken getResponse
     next-one m l g =
         let v : suc k * 256 < length field = within (suc k) l in
         let size : length (part k) ≡ 256 = length-take-le 256 (drop (k * 256) field) (simp length-drop (omega (arith, suc-mul k 256))) in

@@ -46,7 +46,7 @@ module _ (d : Bytes) (a b : ℕ) where
   follows-data true some = le-leb 1 (length d) (some refl)
   follows-data false some = refl
 
-  written-well-formed : (eqb a moreSw1 ≡ true → 1 ≤ length d) → length d ≤ 256 → wellFormed (d ++ a ∷ b ∷ []) ≡ true
+  pub written-well-formed : (eqb a moreSw1 ≡ true → 1 ≤ length d) → length d ≤ 256 → wellFormed (d ++ a ∷ b ∷ []) ≡ true
   unfolding wellFormed
   written-well-formed some small =
       and-intro

@@ -3,19 +3,33 @@ use mathlib.Core.Path.{_≡_}
 use mathlib.Core.Bool.{true, false}
 use mathlib.Core.List.{List, [], _∷_, _++_}
 use Prim.Native.Nat.{ℕ, zero, suc, _*_, _-_, _≤_}
-use lib.ListN.{length}
+use lib.ListN.{length, getD}
 use Rattle.octets.specs.Bytes.{Bytes, tabulate}
 use Rattle.octets.specs.Choice.{if_then_else_}
 use Rattle.octets.specs.Write.{over}
 use Rattle.refusal.specs.declared.Refusal.the-variants.{Malformed, BrokenChain}
-use Rattle.protocol.specs.Message.{StatusWord, maxResponseField}
+use Rattle.protocol.specs.Message.{StatusWord}
 use Rattle.protocol.specs.Permission.{statusPermitted}
 use Rattle.parts.specs.Parts.{ceiling}
-use Rattle.response_chaining.specs.Fragment.{announced, next, fragment}
-use Rattle.response_chaining.specs.Reassembly.{wellFormed, empty, possible, reassembleResponse, reassemblyBuffer}
+use Rattle.response_chaining.specs.Fragment.{longestField, moreSw1, announced, next, fragment}
+use Rattle.response_chaining.specs.Reassembly.{dataOf, statusOf, wellFormed, empty, getResponse, possible, reassembleResponse, reassemblyBuffer}
 use Rattle.response_chaining.specs.declared.ResponseChain.{ResponseChain}
 use Rattle.response_chaining.specs.declared.ResponseReassemblyAnswer.{ResponseReassemblyAnswer}
 use Rattle.response_chaining.specs.declared.ResponseReassemblyAnswer.the-variants.{More, Whole, Refused}
+
+-- ---- the fragments that are taken
+
+-- a well-formed fragment is at most 256 bytes of data, some where more follow, and a status word
+abbrev pub ExactShapes : Type 0
+ExactShapes =
+    (bytes : Bytes) → wellFormed bytes ≡ true
+    → (bytes ≡ dataOf bytes ++ statusOf bytes .sw1 ∷ statusOf bytes .sw2 ∷ [])
+    × (length (dataOf bytes) ≤ 256)
+    × (statusOf bytes .sw1 ≡ moreSw1 → 1 ≤ length (dataOf bytes))
+
+abbrev pub WrittenAreWellFormed : Type 0
+WrittenAreWellFormed =
+    (d : Bytes) (sw1 sw2 : ℕ) → (sw1 ≡ moreSw1 → 1 ≤ length d) → length d ≤ 256 → wellFormed (d ++ sw1 ∷ sw2 ∷ []) ≡ true
 
 -- ---- a whole response
 
@@ -26,9 +40,9 @@ pub record Reassembled : Type 0 where
   pub chain : ResponseChain
   pub held : Bytes
 
--- Le of the next request: the number that the answer gave
+-- Le of the GET RESPONSE that is sent next; none is sent after the whole, or after a refusal
 abbrev pub leAfter : ResponseReassemblyAnswer → ℕ
-leAfter (More n le) = le
+leAfter (More n le) = getD (getResponse le) 4 0
 leAfter (Whole n sw1 sw2) = 0x00
 leAfter (Refused r) = 0x00
 
@@ -50,7 +64,7 @@ answersTo sw n =
 abbrev pub Reassembles : Type 0
 Reassembles =
     (sw : StatusWord) (field held : Bytes)
-    → statusPermitted sw ≡ true → 1 ≤ length field → length field ≤ maxResponseField → length field ≤ length held
+    → statusPermitted sw ≡ true → 1 ≤ length field → length field ≤ longestField → length field ≤ length held
     → requests sw field (ceiling (length field) 256) 0 0x00 empty held
     ≡ record {
       indices = tabulate (ceiling (length field) 256) (λ k. k * 256);
@@ -66,7 +80,11 @@ pub data Reached : ResponseChain → Type 0 where
   more : (c : ResponseChain) (bytes : Bytes) (room n le : ℕ) → Reached c → reassembleResponse c bytes room .answer ≡ More n le
       → Reached (reassembleResponse c bytes room .chain)
 
--- they are the possible ones
+-- every call leaves a possible chain, whatever it was given
+abbrev pub LeavesPossible : Type 0
+LeavesPossible = (c : ResponseChain) (bytes : Bytes) (room : ℕ) → possible (reassembleResponse c bytes room .chain) ≡ true
+
+-- the chains that are reached are the possible ones
 abbrev pub ReachedArePossible : Type 0
 ReachedArePossible = (c : ResponseChain) → Reached c → possible c ≡ true
 

@@ -7,11 +7,15 @@ use lib.ListN.{length, take, drop}
 use Rattle.octets.specs.Bytes.{Bytes}
 use Rattle.octets.specs.Choice.{if_then_else_}
 use Rattle.refusal.specs.declared.Refusal.the-variants.{NotPermitted, TooLong, BufferTooSmall, BrokenChain}
-use Rattle.protocol.specs.Message.{StatusWord, maxResponseField}
+use Rattle.protocol.specs.Message.{StatusWord}
 use Rattle.protocol.specs.Permission.{statusPermitted}
 use Rattle.protocol.specs.Answer.{Answer, refused, gave, require_else_⨾_}
 use Rattle.response_chaining.specs.declared.ResponseFragmentAnswer.{ResponseFragmentAnswer}
 use Rattle.response_chaining.specs.declared.ResponseFragmentAnswer.the-variants.{Fragment, Refused}
+
+-- the longest field that is wrapped; how long a field may be that is read is another limit
+abbrev pub longestField : ℕ
+longestField = 16403
 
 -- SW1 of "more bytes are available"
 abbrev pub moreSw1 : ℕ
@@ -43,7 +47,7 @@ fragment sw field at le = fragmentData field at le ++ fragmentStatus sw (length 
 unfoldable pub fragmentResponse : StatusWord → Bytes → ℕ → ℕ → ℕ → Answer Bytes
 fragmentResponse sw field at le room =
     require statusPermitted sw else NotPermitted ⨾
-    require leb (length field) maxResponseField else TooLong ⨾
+    require leb (length field) longestField else TooLong ⨾
     require ltb at (length field) else BrokenChain ⨾
     require leb (length (fragment sw field at le)) room else BufferTooSmall (length (fragment sw field at le)) ⨾
     gave (fragment sw field at le)

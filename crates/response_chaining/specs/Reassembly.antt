@@ -66,7 +66,7 @@ taken sw n more =
     then record { answer = More n (sw .sw2); chain = chain n }
     else record { answer = Whole n (sw .sw1) (sw .sw2); chain = empty }
 
--- any refusal drops what was joined
+-- "any refusal drops what was joined"
 unfoldable pub concluded : ResponseChain → Bytes → Answer (Unit {0}) → ResponseReassembly
 concluded c bytes (refused r) = record { answer = Refused r; chain = empty }
 concluded c bytes (gave passed) = taken (statusOf bytes) (total c bytes) (isMore bytes)
