@@ -8,9 +8,9 @@ use Rattle.field_lengths.specs.Lengths.{ciphertextLength, encryptedDataLength, 
 use Rattle.objects.specs.Objects.{object, encryptedData}
 use Rattle.command_chaining.specs.Apdu.{fragmentApdu}
 use Rattle.command_chaining.specs.Fragment.{fragmentSize, fragmentCount, fragment}
-use Rattle.response_chaining.specs.Fragment.{asked, fragmentData}
-use Rattle.boundary_table.specs.Table.{answer, LinesHold}
+use Rattle.response_chaining.specs.Fragment.{asked, fragmentData, next}
+use Rattle.boundary_table.specs.Table.{handedOut, answer, LinesHold}
 
 pub lines-hold : LinesHold
-unfolding answer paddedLength lengthField ciphertextLength encryptedDataLength commandLength responseLength object encryptedData fragmentApdu fragmentSize fragmentCount fragment asked fragmentData
+unfolding answer paddedLength lengthField ciphertextLength encryptedDataLength commandLength responseLength object encryptedData fragmentApdu fragmentSize fragmentCount fragment asked fragmentData next handedOut
 lines-hold = refl

@@ -3,15 +3,16 @@
 use mathlib.Core.Path.{_≡_}
 use mathlib.Core.Bool.{Bool, true, false}
 use mathlib.Core.List.{List, [], _∷_, map}
-use Prim.Native.Nat.{ℕ, _+_, _*_, _-_}
+use Prim.Native.Nat.{ℕ, zero, suc, _+_, _-_}
+use lib.Dec.{ltb}
 use lib.ListN.{length, take}
-use Rattle.octets.specs.Bytes.{zeros, tabulate}
+use Rattle.octets.specs.Bytes.{Bytes, zeros, tabulate}
+use Rattle.octets.specs.Choice.{if_then_else_}
 use Rattle.field_lengths.specs.Lengths.{ciphertextLength, commandLength, responseLength}
 use Rattle.objects.specs.Objects.{encryptedData}
 use Rattle.command_chaining.specs.Apdu.{header, lc}
-use Rattle.parts.specs.Parts.{ceiling}
 use Rattle.command_chaining.specs.Fragment.{fragmentCount, fragment as commandFragment}
-use Rattle.response_chaining.specs.Fragment.{fragmentData}
+use Rattle.response_chaining.specs.Fragment.{fragmentData, next}
 
 -- ---- what a line asks of P bytes of data
 
@@ -27,6 +28,13 @@ pub data Question : Type 0 where
   commandFragments : ℕ → Bool → Question
   responseFragments : ℕ → Question
 
+-- the lengths of the fragments that a response field is handed out in, from an index on: each starts where the one before it ended, while anything is left;
+-- the first number is larger than how many there can be
+unfoldable pub handedOut : ℕ → Bytes → ℕ → List ℕ
+handedOut zero field at = []
+handedOut (suc n) field at =
+    if ltb at (length field) then length (fragmentData field at 0x00) ∷ handedOut n field (next field at 0x00) else []
+
 unfoldable pub answer : Question → List ℕ
 answer (ciphertext p) = ciphertextLength p ∷ []
 answer (tagAndLength p) =
@@ -35,8 +43,7 @@ answer (command p le) = commandLength p le ∷ []
 answer (response p) = responseLength p ∷ []
 answer (commandFragments p le) =
     let n = commandLength p le in tabulate (fragmentCount n 255) (λ k. lc (commandFragment (header 0 0 0) (zeros n) 255 k))
-answer (responseFragments p) =
-    let n = responseLength p in tabulate (ceiling n 256) (λ k. length (fragmentData (zeros n) (k * 256) 0x00))
+answer (responseFragments p) = handedOut 100 (zeros (responseLength p)) 0
 
 -- ---- the table
 

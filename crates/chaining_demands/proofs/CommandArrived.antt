@@ -10,7 +10,7 @@ use Rattle.octets.specs.Write.{over}
 use Rattle.session.specs.declared.Side.the-variants.{Host, Card}
 use Rattle.protocol.specs.Answer.{Answer, gave}
 use Rattle.protocol.proofs.Delivered.{command-short, command-least}
-use Rattle.command_chaining.specs.Apdu.{Header}
+use Rattle.command_chaining.specs.Apdu.{Header, header}
 use Rattle.command_chaining.specs.Fragment.{fragmentSize, fragmentCount}
 use Rattle.command_chaining.specs.Chains.{answersTo}
 use Rattle.command_chaining.specs.declared.ReassemblyAnswer.{ReassemblyAnswer}
@@ -53,4 +53,4 @@ delivers-chained-commands w size held fs rs u step counted sendable c =
     (carried w u (fieldOf w) held (bufferAfter held rs) (lastAnswer (More 0 0 0) rs)
     (last-is (More 0 0 0) rs ∙ ap (lastOf (More 0 0 0)) (r .answers) ∙ last-to (More 0 0 0) h (length (fieldOf w)) size)
     (r .buffer) (c .unwrapped)) in
-    record { sent = d .wraps ∙ ap gave (sym field); same = d .unwraps k; again = d .again k; counted = d .counted }
+    record { sent = d .wraps ∙ ap gave (sym field); same-header = λ i. header (k .ins i) (k .p1 i) (k .p2 i); same = d .unwraps k; again = d .again k; counted = d .counted }

@@ -12,10 +12,9 @@ use lib.Seq.{take-append-seam}
 use Rattle.octets.specs.Bytes.{Bytes, tabulate}
 use Rattle.octets.specs.Write.{over}
 use Rattle.octets.proofs.Tabulate.{tabulate-ext}
-use Rattle.protocol.specs.Message.{maxCommandField}
 use Rattle.protocol.specs.Answer.{Answer, gave, require_else_⨾_, buffer}
 use Rattle.command_chaining.specs.Apdu.{Header}
-use Rattle.command_chaining.specs.Fragment.{maxFragment, fragmentCount, fragment, fragmentCommand, fragmentAnswer}
+use Rattle.command_chaining.specs.Fragment.{longestField, maxFragment, fragmentCount, fragment, fragmentCommand, fragmentAnswer}
 use Rattle.command_chaining.specs.Reassembly.{empty, reassembleCommand, reassemblyBuffer}
 use Rattle.command_chaining.specs.Chains.{fragments, Reassembled, reassembleAll}
 use Rattle.command_chaining.specs.declared.FragmentAnswer.{FragmentAnswer}
@@ -28,13 +27,13 @@ use Rattle.chaining_demands.specs.CommandChaining.{Asks, AsksAll, Handed
 -- ---- one fragment
 
 -- with room, a fragment that there is is given
-gives : (h : Header) (field : Bytes) (size k room : ℕ) → length field ≤ maxCommandField → size ≤ maxFragment → k < fragmentCount (length field) size
+gives : (h : Header) (field : Bytes) (size k room : ℕ) → length field ≤ longestField → size ≤ maxFragment → k < fragmentCount (length field) size
     → length (fragment h field size k) ≤ room → fragmentCommand h field size k room ≡ gave (fragment h field size k)
 unfolding fragmentCommand require_else_⨾_
 gives h field size k room short small within fits =
     rw (
       le-leb size maxFragment small,
-      le-leb (length field) maxCommandField short,
+      le-leb (length field) longestField short,
       lt-ltb k (fragmentCount (length field) size) within,
       le-leb (length (fragment h field size k)) room fits,
     )
@@ -49,7 +48,7 @@ in-buffer : (answer : FragmentAnswer) (held out bytes : Bytes) (a : Answer Bytes
 unfolding buffer over
 in-buffer answer held out bytes a g e f = rw (e, f, g) (take-append-seam bytes (drop (length bytes) held))
 
-module _ (h : Header) (field : Bytes) (size : ℕ) (short : length field ≤ maxCommandField) (small : size ≤ maxFragment) where
+module _ (h : Header) (field : Bytes) (size : ℕ) (short : length field ≤ longestField) (small : size ≤ maxFragment) where
   asked-given : (k : ℕ) (f : FragmentsCommand) → k < fragmentCount (length field) size → Asks h field size k f → apdu f ≡ fragment h field size k
   asked-given k f within a =
       let room = length (fragmentBefore f) in

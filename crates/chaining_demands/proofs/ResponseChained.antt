@@ -10,12 +10,12 @@ use lib.ListN.{length, take, drop}
 use lib.Seq.{take-append-seam}
 use Rattle.octets.specs.Bytes.{Bytes, tabulate}
 use Rattle.octets.specs.Write.{over}
-use Rattle.protocol.specs.Message.{StatusWord, maxResponseField}
+use Rattle.protocol.specs.Message.{StatusWord}
 use Rattle.protocol.specs.Permission.{statusPermitted}
 use Rattle.protocol.specs.Answer.{Answer, gave, require_else_⨾_, buffer}
 use Rattle.parts.specs.Parts.{ceiling}
 use Rattle.parts.proofs.Ceiling.{starts-within}
-use Rattle.response_chaining.specs.Fragment.{next, fragment, fragmentResponse, fragmentAnswer}
+use Rattle.response_chaining.specs.Fragment.{longestField, next, fragment, fragmentResponse, fragmentAnswer}
 use Rattle.response_chaining.specs.Reassembly.{empty, reassembleResponse, reassemblyBuffer}
 use Rattle.response_chaining.specs.Chains.{leAfter, Reassembled, requests}
 use Rattle.response_chaining.specs.declared.ResponseFragmentAnswer.{ResponseFragmentAnswer}
@@ -29,11 +29,11 @@ use Rattle.chaining_demands.specs.ResponseChaining.{Asks, Handed, buffer
 -- ---- one fragment
 
 -- with room, a fragment that there is is given
-gives : (sw : StatusWord) (field : Bytes) (at le room : ℕ) → statusPermitted sw ≡ true → length field ≤ maxResponseField → at < length field
+gives : (sw : StatusWord) (field : Bytes) (at le room : ℕ) → statusPermitted sw ≡ true → length field ≤ longestField → at < length field
     → length (fragment sw field at le) ≤ room → fragmentResponse sw field at le room ≡ gave (fragment sw field at le)
 unfolding fragmentResponse require_else_⨾_
 gives sw field at le room permitted short within fits =
-    rw (permitted, le-leb (length field) maxResponseField short, lt-ltb at (length field) within, le-leb (length (fragment sw field at le)) room fits)
+    rw (permitted, le-leb (length field) longestField short, lt-ltb at (length field) within, le-leb (length (fragment sw field at le)) room fits)
 
 same-call : (sw tw : StatusWord) (field bytes : Bytes) (at i le j room : ℕ) → sw ≡ tw → field ≡ bytes → at ≡ i → le ≡ j
     → fragmentResponse sw field at le room ≡ fragmentResponse tw bytes i j room
@@ -66,7 +66,7 @@ abbrev Within : ℕ → List ℕ → Type 0
 Within n [] = Unit {0}
 Within n (i ∷ is) = (i < n) × Within n is
 
-module _ (sw : StatusWord) (field : Bytes) (permitted : statusPermitted sw ≡ true) (short : length field ≤ maxResponseField) where
+module _ (sw : StatusWord) (field : Bytes) (permitted : statusPermitted sw ≡ true) (short : length field ≤ longestField) where
   asked-given : (at le : ℕ) (f : FragmentsResponse) → at < length field → Asks sw field at le f
       → (bytes f ≡ fragment sw field at le) × (nextIn (f .result) ≡ next field at le)
   asked-given at le f within a =

@@ -1,12 +1,13 @@
 -- Demands 1 and 2 of fragmenting and reassembling, of the functions that run. Each statement stands in specs/, in a file of its own.
 -- Assumes nothing.
-use Rattle.chaining_demands.specs.RefusalKeeps.{RefusalKeeps}
+use Rattle.chaining_demands.specs.RefusalKeeps.{RefusalKeeps, RestKeeps}
 use Rattle.chaining_demands.specs.CommandChaining.{ReassemblesCommands}
 use Rattle.chaining_demands.specs.ResponseChaining.{ReassemblesResponses}
 use Rattle.chaining_demands.specs.ChainedCommand.{DeliversChainedCommands}
 use Rattle.chaining_demands.specs.ChainedResponse.{DeliversChainedResponses}
 use Rattle.chaining_demands.specs.HonestExchanges.{HonestExchanges}
 use Rattle.chaining_demands.proofs.RefusalKept.{refusal-keeps}
+use Rattle.chaining_demands.proofs.RestKept.{rest-keeps}
 use Rattle.chaining_demands.proofs.CommandChained.{reassembles-commands}
 use Rattle.chaining_demands.proofs.ResponseChained.{reassembles-responses}
 use Rattle.chaining_demands.proofs.CommandArrived.{delivers-chained-commands}
@@ -16,6 +17,9 @@ use Rattle.chaining_demands.proofs.ExchangesArrived.{honest-exchanges}
 -- demand 1: a refusal changes no byte of the caller's buffer, and drops the chain
 pub demand1 : RefusalKeeps
 demand1 = refusal-keeps
+
+pub demand1-rest : RestKeeps
+demand1-rest = rest-keeps
 
 -- demand 2: fields come back whole
 pub demand2-command-fields : ReassemblesCommands

@@ -1,8 +1,7 @@
 -- Calls of fragmenting and reassembling that ran: a function's arguments, its result and what its references hold at exit, of which its contract holds
 -- (`Learnt`, which Rattle generates from the contract and proves of the code). Assumes nothing.
-use mathlib.Core.Bool.{false}
-use mathlib.Core.List.{List, [], _∷_}
-use Prim.Native.Nat.{ℕ, _+_, _*_}
+use mathlib.Core.List.{[]}
+use Prim.Native.Nat.{ℕ}
 use lib.ListN.{length, take}
 use contract.Lifetimes.{Lfts}
 use denote.Ref.{now}

@@ -39,12 +39,12 @@ abbrev pub lastAnswer : ReassemblyAnswer → List ReassemblesCommand → Reassem
 lastAnswer a [] = a
 lastAnswer a (r ∷ rs) = lastAnswer (r .result .answer) rs
 
--- what is unwrapped is the field and the header that reassembling gave
+-- what is unwrapped is the field and the header that reassembling gave; where it gave none, nothing is said of what is unwrapped
 abbrev pub Unwraps : ReassemblyAnswer → Bytes → UnwrapsCommand → Type 0
 Unwraps (Whole n ins p1 p2) out u =
     (u .args .1 .0 ≡ ins) × (u .args .1 .1 .0 ≡ p1) × (u .args .1 .1 .1 .0 ≡ p2) × (now (u .args .1 .1 .1 .1 .0) ≡ take n out)
-Unwraps (More n sw1 sw2) out u = ⊥
-Unwraps (Refused r) out u = ⊥
+Unwraps (More n sw1 sw2) out u = Unit {0}
+Unwraps (Refused r) out u = Unit {0}
 
 -- wrapped, fragmented by that size, reassembled in a buffer that held those bytes, and unwrapped
 pub record CarriesCommand (w : WrapsCommand) (size : ℕ) (held : Bytes) (fs : List FragmentsCommand) (rs : List ReassemblesCommand) (u : UnwrapsCommand) : Type 0 where
@@ -63,6 +63,7 @@ pub record Sendable (w : WrapsCommand) (u : UnwrapsCommand) : Type 0 where
 
 pub record CommandArrives (w : WrapsCommand) (u : UnwrapsCommand) : Type 0 where
   pub sent : answer (wrapsCommand Host w) ≡ gave (fieldOf w)
+  pub same-header : header (u .args .1 .0) (u .args .1 .1 .0) (u .args .1 .1 .1 .0) ≡ headerOf (command w .header)
   pub same : answer (unwrapsCommand Card u) ≡ gave (record { payload = command w .payload; le = command w .header .le })
   pub again : InStep Pending (next (wrapsCommand Host w)) (next (unwrapsCommand Card u))
   pub counted : next (wrapsCommand Host w) .count ≡ session (wrapsCommand Host w) .count + 1

@@ -30,11 +30,11 @@ abbrev pub lastAnswer : ResponseReassemblyAnswer → List ReassemblesResponse �
 lastAnswer a [] = a
 lastAnswer a (r ∷ rs) = lastAnswer (r .result .answer) rs
 
--- what is unwrapped is the field and the status word that reassembling gave
+-- what is unwrapped is the field and the status word that reassembling gave; where it gave none, nothing is said of what is unwrapped
 abbrev pub Unwraps : ResponseReassemblyAnswer → Bytes → UnwrapsResponse → Type 0
 Unwraps (Whole n sw1 sw2) out u = (u .args .1 .0 ≡ sw1) × (u .args .1 .1 .0 ≡ sw2) × (now (u .args .1 .1 .1 .0) ≡ take n out)
-Unwraps (More n le) out u = ⊥
-Unwraps (Refused r) out u = ⊥
+Unwraps (More n le) out u = Unit {0}
+Unwraps (Refused r) out u = Unit {0}
 
 -- wrapped, fragmented in as many fragments as there are, reassembled in a buffer that held those bytes, and unwrapped
 pub record CarriesResponse (w : WrapsResponse) (held : Bytes) (fs : List FragmentsResponse) (rs : List ReassemblesResponse) (u : UnwrapsResponse) : Type 0 where

@@ -5,13 +5,11 @@ use Prim.Native.Nat.{ℕ, suc, _≤_}
 use lib.ListN.{length}
 use Rattle.octets.specs.Bytes.{Bytes}
 use Rattle.octets.specs.Write.{over}
-use Rattle.protocol.specs.Message.{maxCommandField}
 use Rattle.command_chaining.specs.Apdu.{Header}
-use Rattle.command_chaining.specs.Fragment.{maxFragment, fragmentCount, fragment}
+use Rattle.command_chaining.specs.Fragment.{longestField, maxFragment, fragmentCount, fragment}
 use Rattle.command_chaining.specs.Reassembly.{empty}
 use Rattle.command_chaining.specs.Chains.{answersTo}
 use Rattle.command_chaining.specs.declared.CommandChain.{CommandChain}
-use Rattle.command_chaining.specs.declared.ReassemblyAnswer.{ReassemblyAnswer}
 use Rattle.chaining_demands.specs.Calls.{FragmentsCommand, ReassemblesCommand, headerGiven, fieldGiven, sizeAsked, numberAsked, fragmentBefore, chainGiven, apduGiven, fieldBefore, fieldAfter, apdu}
 
 -- fragment k was asked for, with room for it
@@ -52,5 +50,5 @@ pub record CommandReassembled (h : Header) (field : Bytes) (size : ℕ) (held : 
 abbrev pub ReassemblesCommands : Type 0
 ReassemblesCommands =
     (h : Header) (field : Bytes) (size : ℕ) (held : Bytes) (fs : List FragmentsCommand) (rs : List ReassemblesCommand)
-    → 1 ≤ length field → length field ≤ maxCommandField → size ≤ maxFragment → length field ≤ length held
+    → 1 ≤ length field → length field ≤ longestField → size ≤ maxFragment → length field ≤ length held
     → AsksAll h field size 0 fs → Handed empty held fs rs → CommandReassembled h field size held rs

@@ -4,7 +4,7 @@ use mathlib.Core.Path.{_≡_}
 use mathlib.Core.Bool.{false}
 use mathlib.Core.List.{List, [], _∷_, List·Memᴰ}
 use Prim.Native.Nat.{ℕ, _+_, _*_}
-use lib.ListN.{drop}
+use lib.ListN.{take, drop}
 use Rattle.octets.specs.Bytes.{Bytes}
 use Rattle.refusal.specs.Refusal.{number}
 use Rattle.refusal.specs.declared.Refusal.{Refusal}
@@ -20,7 +20,7 @@ use Rattle.response_chaining.specs.declared.ResponseFragmentAnswer.{ResponseFra
 use Rattle.response_chaining.specs.declared.ResponseFragmentAnswer.the-variants.{Fragment as ResponseFragment, Refused as ResponseNotFragmented}
 use Rattle.response_chaining.specs.declared.ResponseReassemblyAnswer.{ResponseReassemblyAnswer}
 use Rattle.response_chaining.specs.declared.ResponseReassemblyAnswer.the-variants.{More as ResponseMore, Whole as ResponseWhole, Refused as ResponseNotReassembled}
-use Rattle.chaining_demands.specs.Calls.{FragmentsCommand, ReassemblesCommand, FragmentsResponse, ReassemblesResponse, fragmentBefore, fragmentAfter, fieldBefore, fieldAfter, responseFragmentBefore, responseFragmentAfter, responseFieldBefore, responseFieldAfter}
+use Rattle.chaining_demands.specs.Calls.{FragmentsCommand, ReassemblesCommand, FragmentsResponse, ReassemblesResponse, fragmentBefore, fragmentAfter, chainGiven, fieldBefore, fieldAfter, responseFragmentBefore, responseFragmentAfter, responseChainGiven, responseFieldBefore, responseFieldAfter}
 
 pub data Event : Type 0 where
   fragmentsCommand : FragmentsCommand → Event
@@ -28,7 +28,7 @@ pub data Event : Type 0 where
   fragmentsResponse : FragmentsResponse → Event
   reassemblesResponse : ReassemblesResponse → Event
 
--- document 01's order
+-- the refusals of each call; that they come in document 01's order is in the calls' definitions, and computed in their proofs/Answers
 abbrev pub order : Event → List ℕ
 order (fragmentsCommand f) = 15 ∷ 4 ∷ 14 ∷ 6 ∷ []
 order (reassemblesCommand r) = 7 ∷ 14 ∷ 4 ∷ 6 ∷ []
@@ -100,3 +100,19 @@ pub record Keeps (e : Event) (q : Refusal) : Type 0 where
 
 abbrev pub RefusalKeeps : Type 0
 RefusalKeeps = (e : Event) (q : Refusal) → Refuses e q → Keeps e q
+
+-- ---- "An answer that isn't a refusal leaves a lent output's bytes past what it writes as they were"; and reassembling keeps those before them
+
+abbrev pub startOf : Event → ℕ
+startOf (fragmentsCommand f) = 0
+startOf (reassemblesCommand r) = chainGiven r .len
+startOf (fragmentsResponse f) = 0
+startOf (reassemblesResponse r) = responseChainGiven r .len
+
+pub record LeavesRest (e : Event) : Type 0 where
+  pub number-is : values e .number ≡ 0
+  pub start-stays : take (startOf e) (after e) ≡ take (startOf e) (before e)
+  pub rest-stays : drop (values e .len) (after e) ≡ drop (values e .len) (before e)
+
+abbrev pub RestKeeps : Type 0
+RestKeeps = (e : Event) → ((q : Refusal) → Refuses e q → ⊥) → LeavesRest e

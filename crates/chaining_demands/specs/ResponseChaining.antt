@@ -6,10 +6,10 @@ use Prim.Native.Nat.{ℕ, _≤_}
 use lib.ListN.{length}
 use Rattle.octets.specs.Bytes.{Bytes}
 use Rattle.octets.specs.Write.{over}
-use Rattle.protocol.specs.Message.{StatusWord, maxResponseField}
+use Rattle.protocol.specs.Message.{StatusWord}
 use Rattle.protocol.specs.Permission.{statusPermitted}
 use Rattle.parts.specs.Parts.{ceiling}
-use Rattle.response_chaining.specs.Fragment.{fragment}
+use Rattle.response_chaining.specs.Fragment.{longestField, fragment}
 use Rattle.response_chaining.specs.Reassembly.{empty}
 use Rattle.response_chaining.specs.Chains.{leAfter, answersTo}
 use Rattle.response_chaining.specs.declared.ResponseChain.{ResponseChain}
@@ -50,5 +50,5 @@ pub record ResponseReassembled (sw : StatusWord) (field held : Bytes) (rs : List
 abbrev pub ReassemblesResponses : Type 0
 ReassemblesResponses =
     (sw : StatusWord) (field held : Bytes) (fs : List FragmentsResponse) (rs : List ReassemblesResponse)
-    → statusPermitted sw ≡ true → 1 ≤ length field → length field ≤ maxResponseField → length field ≤ length held
+    → statusPermitted sw ≡ true → 1 ≤ length field → length field ≤ longestField → length field ≤ length held
     → length rs ≡ ceiling (length field) 256 → Handed sw field 0 0x00 empty held fs rs → ResponseReassembled sw field held rs
