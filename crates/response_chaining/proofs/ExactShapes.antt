@@ -38,10 +38,11 @@ exact-shapes bytes w =
     let least : 2 ≤ length bytes = leb-true 2 (length bytes) (q .0) in
     let most : dataLength bytes ≤ 256 = leb-true (dataLength bytes) 256 (p .1) in
     let size : length (dataOf bytes) ≡ dataLength bytes = length-take-le (dataLength bytes) bytes (omega arith) in
-    let two : bytes ≡ dataOf bytes ++ getD bytes (dataLength bytes) 0 ∷ getD bytes (suc (dataLength bytes)) 0 ∷ [] = with-two bytes (dataLength bytes) (omega arith) in
-    (two ∙ ap (λ (n : ℕ). dataOf bytes ++ getD bytes (dataLength bytes) 0 ∷ getD bytes n 0 ∷ []) (sym (add-one (dataLength bytes))),
+    let two : bytes ≡ dataOf bytes ++ getD bytes (dataLength bytes) 0 ∷ getD bytes (suc (dataLength bytes)) 0 ∷ [] = with-two bytes (dataLength bytes) (omega arith) in (
+      two ∙ ap (λ (n : ℕ). dataOf bytes ++ getD bytes (dataLength bytes) 0 ∷ getD bytes n 0 ∷ []) (sym (add-one (dataLength bytes))),
       omega arith,
-      λ e. omega (arith, leb-true 1 (dataLength bytes) (needs-data (isMore bytes) (leb 1 (dataLength bytes)) (q .1) (eq-eqb (statusOf bytes .sw1) moreSw1 e))))
+      λ e. omega (arith, leb-true 1 (dataLength bytes) (needs-data (isMore bytes) (leb 1 (dataLength bytes)) (q .1) (eq-eqb (statusOf bytes .sw1) moreSw1 e))),
+    )
 
 pub written-are-well-formed : WrittenAreWellFormed
 written-are-well-formed d sw1 sw2 some small = written-well-formed d sw1 sw2 (λ e. some (eqb-true sw1 moreSw1 e)) small
