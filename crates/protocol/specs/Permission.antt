@@ -39,7 +39,7 @@ dataNeed ins = if eqb ins verify then May else Must
 unfoldable pub commandPermitted : CommandHeader → ℕ → Bool
 commandPermitted h n = insPermitted (h .ins) && suits (dataNeed (h .ins)) (ltb 0 n) && suits (leNeed (h .ins)) (h .le)
 
--- a card may not wrap a status with SW1 '61'
+-- a card may neither wrap nor fragment a response with SW1 '61'
 unfoldable pub statusPermitted : StatusWord → Bool
 statusPermitted sw = not (eqb (sw .sw1) 0x61)
 
