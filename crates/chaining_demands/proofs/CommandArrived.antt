@@ -53,4 +53,4 @@ delivers-chained-commands w size held fs rs u step counted sendable c =
     (carried w u (fieldOf w) held (bufferAfter held rs) (lastAnswer (More 0 0 0) rs)
     (last-is (More 0 0 0) rs ∙ ap (lastOf (More 0 0 0)) (r .answers) ∙ last-to (More 0 0 0) h (length (fieldOf w)) size)
     (r .buffer) (c .unwrapped)) in
-    record { sent = d .wraps ∙ ap gave (sym field); same-header = λ i. header (k .ins i) (k .p1 i) (k .p2 i); same = d .unwraps k; again = d .again k; counted = d .counted }
+    (r, record { sent = d .wraps ∙ ap gave (sym field); same-header = λ i. header (k .ins i) (k .p1 i) (k .p2 i); same = d .unwraps k; again = d .again k; counted = d .counted })

@@ -13,7 +13,7 @@ use Rattle.protocol.specs.Message.{commandLimit}
 use Rattle.protocol.specs.HonestDelivery.{InStep}
 use Rattle.demands.specs.Calls.{wrapsCommand, unwrapsCommand, wrapsResponse, unwrapsResponse, session, next}
 use Rattle.demands.proofs.Theorems.{demand2-openings}
-use Rattle.chaining_demands.specs.HonestExchanges.{Exchange, Honest, AllHonest, AllArrive, HonestExchanges}
+use Rattle.chaining_demands.specs.HonestExchanges.{Exchange, Honest, AllHonest, AllSucceed, HonestExchanges}
 use Rattle.chaining_demands.proofs.CommandArrived.{delivers-chained-commands}
 use Rattle.chaining_demands.proofs.ResponseArrived.{delivers-chained-responses}
 
@@ -23,7 +23,7 @@ same-step phase h h' c c' e f s = subst (λ (x : Session). InStep phase x c') (s
 count-of : (s t : Session) → s ≡ t → s .count ≡ t .count
 count-of s t e = ap (λ (x : Session). x .count) e
 
-go : (h c : Session) (es : List Exchange) → InStep Ready h c → h .count + length es ≤ commandLimit → AllHonest h c es → AllArrive es
+go : (h c : Session) (es : List Exchange) → InStep Ready h c → h .count + length es ≤ commandLimit → AllHonest h c es → AllSucceed es
 go h c [] step few all = tt
 go h c (e ∷ es) step few all =
     let g = all .0 in
@@ -31,9 +31,11 @@ go h c (e ∷ es) step few all =
     let a = delivers-chained-commands (e .wrap) (e .size) (e .cardHeld) (e .fragments) (e .reassembled) (e .unwrap)
     (same-step Ready h _ c _ (g .host) (g .card) step) (omega arith) (g .command-sendable) (g .command-carried) in
     let b = delivers-chained-responses (e .wrapResponse) (e .hostHeld) (e .responseFragments) (e .responseReassembled) (e .unwrapResponse)
-    (same-step Pending _ _ _ _ (g .host-then) (g .card-then) (a .again)) (g .response-sendable) (g .response-carried) in
-    let then-counted = count-of (session (unwrapsResponse Host (e .unwrapResponse))) (next (wrapsCommand Host (e .wrap))) (g .host-then) in
-    ((a, b), go (next (unwrapsResponse Host (e .unwrapResponse))) (next (wrapsResponse Card (e .wrapResponse))) es (b .again) (omega (arith, a .counted, b .counted)) (all .1))
+    (same-step Pending _ _ _ _ (g .host-then) (g .card-then) (a .1 .again)) (g .response-sendable) (g .response-carried) in
+    let then-counted = count-of (session (unwrapsResponse Host (e .unwrapResponse))) (next (wrapsCommand Host (e .wrap))) (g .host-then) in (
+      record { command-whole = a .0; command-arrives = a .1; response-whole = b .0; response-arrives = b .1 },
+      go (next (unwrapsResponse Host (e .unwrapResponse))) (next (wrapsResponse Card (e .wrapResponse))) es (b .1 .again) (omega (arith, a .1 .counted, b .1 .counted)) (all .1),
+    )
 
 pub honest-exchanges : HonestExchanges
 honest-exchanges h c hostOpened cardOpened same es few all =

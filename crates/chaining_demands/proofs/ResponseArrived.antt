@@ -53,4 +53,4 @@ delivers-chained-responses w held fs rs u step sendable c =
     (carried w u (fieldOf w) held (bufferAfter held rs) (lastAnswer (More 0 0) rs)
     (last-is (More 0 0) rs ∙ ap (lastOf (More 0 0)) (r .answers) ∙ last-to (More 0 0) sw (length (fieldOf w)))
     (r .buffer) (c .unwrapped)) in
-    record { sent = d .wraps ∙ ap gave (sym field); same = d .unwraps k; again = d .again k; counted = d .counted k }
+    (r, record { sent = d .wraps ∙ ap gave (sym field); same = d .unwraps k; again = d .again k; counted = d .counted k })

@@ -21,7 +21,7 @@ use Rattle.command_chaining.specs.declared.ReassemblyAnswer.{ReassemblyAnswer}
 use Rattle.command_chaining.specs.declared.ReassemblyAnswer.the-variants.{More, Whole, Refused}
 use Rattle.demands.specs.Calls.{WrapsCommand, UnwrapsCommand, wrapsCommand, unwrapsCommand, session, command, bufferBefore, next, answer}
 use Rattle.chaining_demands.specs.Calls.{FragmentsCommand, ReassemblesCommand}
-use Rattle.chaining_demands.specs.CommandChaining.{AsksAll, Handed, bufferAfter}
+use Rattle.chaining_demands.specs.CommandChaining.{AsksAll, Handed, bufferAfter, CommandReassembled}
 
 -- the field that a wrap gave
 abbrev pub fieldIn : Answer Bytes → Bytes
@@ -72,4 +72,5 @@ abbrev pub DeliversChainedCommands : Type 0
 DeliversChainedCommands =
     (w : WrapsCommand) (size : ℕ) (held : Bytes) (fs : List FragmentsCommand) (rs : List ReassemblesCommand) (u : UnwrapsCommand)
     → InStep Ready (session (wrapsCommand Host w)) (session (unwrapsCommand Card u)) → session (wrapsCommand Host w) .count < commandLimit
-    → Sendable w u → CarriesCommand w size held fs rs u → CommandArrives w u
+    → Sendable w u → CarriesCommand w size held fs rs u
+    → CommandReassembled (headerOf (command w .header)) (fieldOf w) size held rs × CommandArrives w u

@@ -19,7 +19,7 @@ use Rattle.response_chaining.specs.declared.ResponseReassemblyAnswer.{ResponseR
 use Rattle.response_chaining.specs.declared.ResponseReassemblyAnswer.the-variants.{More, Whole, Refused}
 use Rattle.demands.specs.Calls.{WrapsResponse, UnwrapsResponse, wrapsResponse, unwrapsResponse, session, response, bufferBefore, next, answer}
 use Rattle.chaining_demands.specs.Calls.{FragmentsResponse, ReassemblesResponse}
-use Rattle.chaining_demands.specs.ResponseChaining.{Handed, bufferAfter}
+use Rattle.chaining_demands.specs.ResponseChaining.{Handed, bufferAfter, ResponseReassembled}
 use Rattle.chaining_demands.specs.ChainedCommand.{fieldIn}
 
 abbrev pub fieldOf : WrapsResponse → Bytes
@@ -60,4 +60,5 @@ abbrev pub DeliversChainedResponses : Type 0
 DeliversChainedResponses =
     (w : WrapsResponse) (held : Bytes) (fs : List FragmentsResponse) (rs : List ReassemblesResponse) (u : UnwrapsResponse)
     → InStep Pending (session (unwrapsResponse Host u)) (session (wrapsResponse Card w))
-    → Sendable w u → CarriesResponse w held fs rs u → ResponseArrives w u
+    → Sendable w u → CarriesResponse w held fs rs u
+    → ResponseReassembled (response w .header) (fieldOf w) held rs × ResponseArrives w u

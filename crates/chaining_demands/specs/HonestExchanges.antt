@@ -8,10 +8,12 @@ use Rattle.session.specs.declared.Side.the-variants.{Host, Card}
 use Rattle.session.specs.declared.Opening.the-variants.{Opened as Done}
 use Rattle.session.specs.declared.Session.{Session}
 use Rattle.protocol.specs.Message.{commandLimit}
-use Rattle.demands.specs.Calls.{OpensHost, OpensCard, hostKeys, cardKeys, WrapsCommand, UnwrapsCommand, WrapsResponse, UnwrapsResponse, wrapsCommand, unwrapsCommand, wrapsResponse, unwrapsResponse, session, next}
+use Rattle.demands.specs.Calls.{OpensHost, OpensCard, hostKeys, cardKeys, WrapsCommand, UnwrapsCommand, WrapsResponse, UnwrapsResponse, wrapsCommand, unwrapsCommand, wrapsResponse, unwrapsResponse, session, command, response, next}
 use Rattle.chaining_demands.specs.Calls.{FragmentsCommand, ReassemblesCommand, FragmentsResponse, ReassemblesResponse}
-use Rattle.chaining_demands.specs.ChainedCommand.{Sendable as CommandSendable, CarriesCommand, CommandArrives}
-use Rattle.chaining_demands.specs.ChainedResponse.{Sendable as ResponseSendable, CarriesResponse, ResponseArrives}
+use Rattle.chaining_demands.specs.CommandChaining.{CommandReassembled}
+use Rattle.chaining_demands.specs.ResponseChaining.{ResponseReassembled}
+use Rattle.chaining_demands.specs.ChainedCommand.{fieldOf, headerOf, Sendable as CommandSendable, CarriesCommand, CommandArrives}
+use Rattle.chaining_demands.specs.ChainedResponse.{fieldOf as responseFieldOf, Sendable as ResponseSendable, CarriesResponse, ResponseArrives}
 
 -- the calls of an exchange: a command to the card, in fragments of that size, and its response to the host; each end reassembles in a buffer
 pub record Exchange : Type 0 where
@@ -42,12 +44,18 @@ abbrev pub AllHonest : Session → Session → List Exchange → Type 0
 AllHonest h c [] = Unit {0}
 AllHonest h c (e ∷ es) = Honest h c e × AllHonest (next (unwrapsResponse Host (e .unwrapResponse))) (next (wrapsResponse Card (e .wrapResponse))) es
 
--- both messages arrived
-abbrev pub AllArrive : List Exchange → Type 0
-AllArrive [] = Unit {0}
-AllArrive (e ∷ es) = (CommandArrives (e .wrap) (e .unwrap) × ResponseArrives (e .wrapResponse) (e .unwrapResponse)) × AllArrive es
+-- both fields were reassembled, and both messages arrived
+pub record Succeeds (e : Exchange) : Type 0 where
+  pub command-whole : CommandReassembled (headerOf (command (e .wrap) .header)) (fieldOf (e .wrap)) (e .size) (e .cardHeld) (e .reassembled)
+  pub command-arrives : CommandArrives (e .wrap) (e .unwrap)
+  pub response-whole : ResponseReassembled (response (e .wrapResponse) .header) (responseFieldOf (e .wrapResponse)) (e .hostHeld) (e .responseReassembled)
+  pub response-arrives : ResponseArrives (e .wrapResponse) (e .unwrapResponse)
+
+abbrev pub AllSucceed : List Exchange → Type 0
+AllSucceed [] = Unit {0}
+AllSucceed (e ∷ es) = Succeeds e × AllSucceed es
 
 abbrev pub HonestExchanges : Type 0
 HonestExchanges =
     (h : OpensHost) (c : OpensCard) → h .result .answer ≡ Done → c .result .answer ≡ Done → cardKeys c ≡ hostKeys h
-    → (es : List Exchange) → length es ≤ commandLimit → AllHonest (h .result .session) (c .result .session) es → AllArrive es
+    → (es : List Exchange) → length es ≤ commandLimit → AllHonest (h .result .session) (c .result .session) es → AllSucceed es

@@ -1,8 +1,9 @@
 -- The part of a field that fragment k holds, by its indices. Assumes nothing.
-use Prim.Native.Nat.{ℕ, suc, _+_, _*_}
+use Prim.Native.Nat.{ℕ, suc, _*_}
 use lib.Dec.{eqb}
-use lib.ListN.{length, take, drop}
+use lib.ListN.{length}
 use Rattle.octets.specs.Bytes.{Bytes}
+use Rattle.parts.specs.Parts.{partEnd}
 use Rattle.command_chaining.specs.Fragment.{fragmentSize, fragmentCount}
 use Rattle.fragment_command.specs.declared.Part.{Part}
 
@@ -10,6 +11,6 @@ abbrev pub fragmentPart : Bytes → ℕ → ℕ → Part
 fragmentPart field p k =
     record {
       start = k * fragmentSize p;
-      end = k * fragmentSize p + length (take (fragmentSize p) (drop (k * fragmentSize p) field));
+      end = partEnd field (k * fragmentSize p) (fragmentSize p);
       last = eqb (suc k) (fragmentCount (length field) p);
     }
