@@ -105,7 +105,7 @@ pub fn reads(case: &[u8], bytes: &[u8]) {
     let answer = decoded.answer;
     match answer {
         Decoding::Decoded => numbers(0, 0),
-        Decoding::Refused(refusal) => numbers(refusal.number() as usize, refusal.extra()),
+        Decoding::Refused(refusal) => numbers(refusal.number() as usize, refusal.size() + refusal.status() as usize),
     }
     print::text(b"-\n");
 }
@@ -129,7 +129,7 @@ fn done(n: usize, out: &[u8]) {
 }
 
 fn refused(refusal: Refusal, out: &[u8]) {
-    numbers(refusal.number() as usize, refusal.extra());
+    numbers(refusal.number() as usize, refusal.size() + refusal.status() as usize);
     if kept(out, 0) {
         print::text(b"unchanged\n");
     } else {

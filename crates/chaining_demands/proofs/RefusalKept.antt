@@ -25,7 +25,8 @@ use Rattle.response_chaining.specs.declared.ResponseChain.{ResponseChain}
 use Rattle.response_chaining.specs.declared.ResponseReassembly.{ResponseReassembly}
 use Rattle.response_chaining.specs.declared.ResponseFragmentAnswer.the-variants.{Fragment as ResponseFragment, Refused as ResponseNotFragmented}
 use Rattle.response_chaining.specs.declared.ResponseReassemblyAnswer.the-variants.{More as ResponseMore, Whole as ResponseWhole, Refused as ResponseNotReassembled}
-use Rattle.chaining_demands.specs.RefusalKeeps.{Event, fragmentsCommand, reassemblesCommand, fragmentsResponse, reassemblesResponse, fragmentValues, reassemblyValues, responseFragmentValues, responseReassemblyValues, RefusalKeeps}
+use Rattle.values.specs.Values.{fragmentValues, reassemblyValues, responseFragmentValues, responseReassemblyValues}
+use Rattle.chaining_demands.specs.RefusalKeeps.{Event, fragmentsCommand, reassemblesCommand, fragmentsResponse, reassemblesResponse, RefusalKeeps}
 
 -- ---- places in an order
 

@@ -32,7 +32,8 @@ use Rattle.response_chaining.specs.declared.ResponseReassembly.{ResponseReassem
 use Rattle.response_chaining.specs.declared.ResponseFragmentAnswer.{ResponseFragmentAnswer}
 use Rattle.response_chaining.specs.declared.ResponseFragmentAnswer.the-variants.{Refused as ResponseNotFragmented}
 use Rattle.response_chaining.specs.declared.ResponseReassemblyAnswer.the-variants.{Refused as ResponseNotReassembled}
-use Rattle.chaining_demands.specs.RefusalKeeps.{Event, fragmentsCommand, reassemblesCommand, fragmentsResponse, reassemblesResponse, fragmentValues, reassemblyValues, responseFragmentValues, responseReassemblyValues, RestKeeps}
+use Rattle.values.specs.Values.{fragmentValues, reassemblyValues, responseFragmentValues, responseReassemblyValues}
+use Rattle.chaining_demands.specs.RefusalKeeps.{Event, fragmentsCommand, reassemblesCommand, fragmentsResponse, reassemblesResponse, RestKeeps}
 
 -- ---- written at the start, and behind what stands there
 

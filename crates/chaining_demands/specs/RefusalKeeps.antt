@@ -1,25 +1,20 @@
 -- Demand 1, of fragmenting and reassembling, of the functions: "Any bytes, any session and any turn get an answer from the numbered table in document 01. A
 -- refusal changes no byte of a lent output." And of reassembling: "any refusal drops what was joined". Assumes nothing.
 use mathlib.Core.Path.{_≡_}
-use mathlib.Core.Bool.{false}
 use mathlib.Core.List.{List, [], _∷_, List·Memᴰ}
-use Prim.Native.Nat.{ℕ, _+_, _*_}
+use Prim.Native.Nat.{ℕ}
 use lib.ListN.{take, drop}
 use Rattle.octets.specs.Bytes.{Bytes}
 use Rattle.refusal.specs.Refusal.{number}
 use Rattle.refusal.specs.declared.Refusal.{Refusal}
-use Rattle.results.specs.Values.{Values, refusalValues}
+use Rattle.values.specs.Values.{refusalValues, fragmentValues, reassemblyValues, responseFragmentValues, responseReassemblyValues}
+use Rattle.values.specs.declared.Values.{Values}
 use Rattle.command_chaining.specs.Reassembly.{empty as emptyCommand}
-use Rattle.command_chaining.specs.declared.FragmentAnswer.{FragmentAnswer}
-use Rattle.command_chaining.specs.declared.FragmentAnswer.the-variants.{Fragment, Refused as NotFragmented}
-use Rattle.command_chaining.specs.declared.ReassemblyAnswer.{ReassemblyAnswer}
-use Rattle.command_chaining.specs.declared.ReassemblyAnswer.the-variants.{More, Whole, Refused as NotReassembled}
-use Rattle.response_chaining.specs.Fragment.{moreSw1}
+use Rattle.command_chaining.specs.declared.FragmentAnswer.the-variants.{Refused as NotFragmented}
+use Rattle.command_chaining.specs.declared.ReassemblyAnswer.the-variants.{Refused as NotReassembled}
 use Rattle.response_chaining.specs.Reassembly.{empty as emptyResponse}
-use Rattle.response_chaining.specs.declared.ResponseFragmentAnswer.{ResponseFragmentAnswer}
-use Rattle.response_chaining.specs.declared.ResponseFragmentAnswer.the-variants.{Fragment as ResponseFragment, Refused as ResponseNotFragmented}
-use Rattle.response_chaining.specs.declared.ResponseReassemblyAnswer.{ResponseReassemblyAnswer}
-use Rattle.response_chaining.specs.declared.ResponseReassemblyAnswer.the-variants.{More as ResponseMore, Whole as ResponseWhole, Refused as ResponseNotReassembled}
+use Rattle.response_chaining.specs.declared.ResponseFragmentAnswer.the-variants.{Refused as ResponseNotFragmented}
+use Rattle.response_chaining.specs.declared.ResponseReassemblyAnswer.the-variants.{Refused as ResponseNotReassembled}
 use Rattle.chaining_demands.specs.Calls.{FragmentsCommand, ReassemblesCommand, FragmentsResponse, ReassemblesResponse, fragmentBefore, fragmentAfter, chainGiven, fieldBefore, fieldAfter, responseFragmentBefore, responseFragmentAfter, responseChainGiven, responseFieldBefore, responseFieldAfter}
 
 pub data Event : Type 0 where
@@ -47,29 +42,7 @@ after (reassemblesCommand r) = fieldAfter r
 after (fragmentsResponse f) = responseFragmentAfter f
 after (reassemblesResponse r) = responseFieldAfter r
 
--- ---- number, length and status word of each answer, as document 01 counts them; 0 is the number of one that is not a refusal
-
-abbrev pub given : ℕ → ℕ → Values
-given n sw = record { number = 0; len = n; status = sw; le = false }
-
-abbrev pub fragmentValues : FragmentAnswer → Values
-fragmentValues (Fragment n) = given n 0
-fragmentValues (NotFragmented r) = refusalValues r
-
-abbrev pub reassemblyValues : ReassemblyAnswer → Values
-reassemblyValues (More n sw1 sw2) = given n (sw1 * 256 + sw2)
-reassemblyValues (Whole n ins p1 p2) = given n 0
-reassemblyValues (NotReassembled r) = refusalValues r
-
-abbrev pub responseFragmentValues : ResponseFragmentAnswer → Values
-responseFragmentValues (ResponseFragment n next) = given n 0
-responseFragmentValues (ResponseNotFragmented r) = refusalValues r
-
--- where more follow, the status word is 61 and the number to ask for
-abbrev pub responseReassemblyValues : ResponseReassemblyAnswer → Values
-responseReassemblyValues (ResponseMore n le) = given n (moreSw1 * 256 + le)
-responseReassemblyValues (ResponseWhole n sw1 sw2) = given n (sw1 * 256 + sw2)
-responseReassemblyValues (ResponseNotReassembled r) = refusalValues r
+-- ---- number and values of each answer, as document 01 counts them
 
 abbrev pub values : Event → Values
 values (fragmentsCommand f) = fragmentValues (f .result)

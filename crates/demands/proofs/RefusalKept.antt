@@ -26,7 +26,7 @@ use Rattle.protocol.specs.Answer.{refused, gave, Out, buffer}
 use Rattle.protocol.specs.RefusalKeeps.{writes, IsClosed}
 use Rattle.protocol.specs.Transcript.{Gives, does}
 use Rattle.protocol.proofs.Theorems.{demand1}
-use Rattle.results.specs.Values.{refusalValues, wrapValues, commandValues, responseValues}
+use Rattle.values.specs.Values.{refusalValues, wrapValues, commandValues, responseValues}
 use Rattle.results.specs.declared.WrapAnswer.{WrapAnswer}
 use Rattle.results.specs.declared.WrapAnswer.the-variants.{Wrapped, Refused as NotWrapped}
 use Rattle.results.specs.declared.CommandAnswer.{CommandAnswer}

@@ -30,7 +30,8 @@ use Rattle.protocol.specs.Message.{Command, Response}
 use Rattle.protocol.specs.Answer.{Answer, refused, gave}
 use Rattle.protocol.specs.Command.{CommandGiven}
 use Rattle.protocol.specs.Transcript.{Call, wrapCommand, unwrapCommand, wrapResponse, unwrapResponse, close, Gives}
-use Rattle.results.specs.Values.{Values, wrapValues, commandValues, responseValues}
+use Rattle.values.specs.Values.{given, wrapValues, commandValues, responseValues}
+use Rattle.values.specs.declared.Values.{Values}
 use Rattle.results.specs.declared.WrapAnswer.{WrapAnswer}
 use Rattle.results.specs.declared.WrapAnswer.the-variants.{Wrapped, Refused as NotWrapped}
 use Rattle.results.specs.declared.WrapResult.{WrapResult}
@@ -197,7 +198,7 @@ values (wrapsCommand side c) = wrapValues (c .result .answer)
 values (unwrapsCommand side c) = commandValues (c .result .answer)
 values (wrapsResponse side c) = wrapValues (c .result .answer)
 values (unwrapsResponse side c) = responseValues (c .result .answer)
-values (closes side c) = record { number = 0; len = 0; status = 0; le = false }
+values (closes side c) = given 0 0 0
 
 abbrev pub answer : (e : Event) → Answer (Gives (call e))
 answer (wrapsCommand side c) = wrapGave (c .result .answer) (bufferAfter (wrapsCommand side c))

@@ -11,7 +11,7 @@ use Rattle.session.specs.declared.Side.the-variants.{Host, Card}
 use Rattle.session.specs.declared.Opening.the-variants.{Refused}
 use Rattle.protocol.specs.Answer.{refused, buffer}
 use Rattle.protocol.specs.RefusalKeeps.{order, writes, IsClosed}
-use Rattle.results.specs.Values.{refusalValues}
+use Rattle.values.specs.Values.{refusalValues}
 use Rattle.demands.specs.Calls.{OpensHost, OpensCard, Event, session, bufferBefore, bufferAfter, call, next, values, answer}
 
 pub record Keeps (e : Event) (r : Refusal) : Type 0 where

@@ -107,7 +107,7 @@ fn session_from(bytes: &[u8], suite: Suite) -> Session
     }
 }
 
-fn unreadable() -> Decoded
+pub fn unreadable() -> Decoded
     ensures { λ decoded. ⌜ decoded ≡ unreadable ⌝ }
 {
     let session = Session::none(Side::Host);

@@ -1,6 +1,6 @@
 // The refusals of document 01's table "The numbered answers", one for each number.
 ghost use mathlib.Core.Path.{_≡_};
-ghost use Rattle.refusal.specs.Refusal.{number, extra};
+ghost use Rattle.refusal.specs.Refusal.{statusWord, number, size, status};
 
 pub enum Refusal {
     SessionClosed,
@@ -23,10 +23,17 @@ pub enum Refusal {
     BadSession,
 }
 
-fn wide(b: u8) -> usize
+fn wide(b: u8) -> u16
     ensures { λ r. ⌜ r ≡ b ⌝ }
 {
-    b as usize
+    b as u16
+}
+
+// SW1 is the high byte.
+pub fn status_word(sw1: u8, sw2: u8) -> u16
+    ensures { λ n. ⌜ n ≡ statusWord sw1 sw2 ⌝ }
+{
+    wide(sw1) * 256 + wide(sw2)
 }
 
 impl Refusal {
@@ -53,9 +60,9 @@ impl Refusal {
         }
     }
 
-    // The number beside the answer's: the size needed, or the status word SW1 * 256 + SW2.
-    pub fn extra(self) -> usize
-        ensures { λ n. ⌜ n ≡ extra self ⌝ }
+    // The size that the caller's buffer should have.
+    pub fn size(self) -> usize
+        ensures { λ n. ⌜ n ≡ size self ⌝ }
     {
         match self {
             Refusal::SessionClosed => 0,
@@ -70,7 +77,31 @@ impl Refusal {
             Refusal::BadPadding => 0,
             Refusal::UnknownSuite => 0,
             Refusal::BadKeyLength => 0,
-            Refusal::Unprotected(sw1, sw2) => wide(sw1) * 256 + wide(sw2),
+            Refusal::Unprotected(_, _) => 0,
+            Refusal::BrokenChain => 0,
+            Refusal::FragmentTooLong => 0,
+            Refusal::BadSession => 0,
+        }
+    }
+
+    // The status word, unverified.
+    pub fn status(self) -> u16
+        ensures { λ n. ⌜ n ≡ status self ⌝ }
+    {
+        match self {
+            Refusal::SessionClosed => 0,
+            Refusal::OutOfTurn => 0,
+            Refusal::NotPermitted => 0,
+            Refusal::TooLong => 0,
+            Refusal::CommandLimit => 0,
+            Refusal::BufferTooSmall(_) => 0,
+            Refusal::Malformed => 0,
+            Refusal::MissingObject => 0,
+            Refusal::BadMac => 0,
+            Refusal::BadPadding => 0,
+            Refusal::UnknownSuite => 0,
+            Refusal::BadKeyLength => 0,
+            Refusal::Unprotected(sw1, sw2) => status_word(sw1, sw2),
             Refusal::BrokenChain => 0,
             Refusal::FragmentTooLong => 0,
             Refusal::BadSession => 0,

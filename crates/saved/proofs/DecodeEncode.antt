@@ -23,7 +23,7 @@ use Rattle.suite.specs.declared.SuiteNumber.the-variants.{Known}
 use Rattle.session.specs.declared.Session.{Session}
 use Rattle.validity.specs.Valid.{valid, keepsPhase}
 use Rattle.saved.specs.Saved.{sideNumber, phaseNumber, header, keys, mcvs, encode, headed, sideFrom, phaseFrom, part, sessionFrom, decodedTo, accepted, decodeSuite, decode}
-use Rattle.saved.proofs.SavedParts.{length-header, length-keys, length-mcvs}
+use Rattle.saved.proofs.SavedParts.{length-header, length-keys, length-mcvs, length-encode}
 
 -- ---- numbers
 
@@ -78,12 +78,8 @@ module _ (s : Session) (a : Arrays s) where
   abbrev response : Bytes
   response = s .«response_mcv»
 
-  pub length-encode : length (encode s) ≡ 138
-  unfolding encode
-  length-encode =
-      let k = length-keys s (a .enc .size) (a .mac .size) (a .rmac .size) in
-      let m = length-mcvs s (a .command .size) (a .response .size) in
-      simp length-append (omega (arith, length-header s, k, m))
+  whole : length (encode s) ≡ 138
+  whole = length-encode s (a .enc .size) (a .mac .size) (a .rmac .size) (a .command .size) (a .response .size)
 
   enc-back : part (encode s) 10 32 ≡ enc
   unfolding encode keys mcvs
@@ -138,7 +134,7 @@ module _ (s : Session) (a : Arrays s) where
 
   headed-back : headed (encode s) ≡ true
   unfolding headed encode header
-  headed-back = rw (eq-eqb _ _ length-encode, side-known (s .side), phase-known (s .phase))
+  headed-back = rw (eq-eqb _ _ whole, side-known (s .side), phase-known (s .phase))
 
   pub decode-encode : valid s ≡ true → decode (encode s) ≡ decodedTo s
   unfolding decode decodeSuite accepted encode header

@@ -3,13 +3,14 @@
 use mathlib.Core.Path.{_≡_, refl}
 use mathlib.Core.Bool.{true, _&&_}
 use Prim.Native.Nat.{_≤_}
+use native.Mathlib.Omega.{arith}
 use borrow.Author.Tests.{eqb-true, leb-true}
 use lib.Dec.{eqb, leb}
 use lib.ListN.{length, getD, length-append}
 use Rattle.octets.specs.Bytes.{Bytes}
 use Rattle.octets.proofs.Tests.{both}
 use Rattle.session.specs.declared.Session.{Session}
-use Rattle.saved.specs.Saved.{header, keys, mcvs, headed}
+use Rattle.saved.specs.Saved.{header, keys, mcvs, encode, headed}
 
 pub length-header : (s : Session) → length (header s) ≡ 10
 unfolding header
@@ -23,6 +24,11 @@ length-keys s e m r = simp (length-append, e, m, r)
 pub length-mcvs : (s : Session) → length (s .«command_mcv») ≡ 16 → length (s .«response_mcv») ≡ 16 → length (mcvs s) ≡ 32
 unfolding mcvs
 length-mcvs s c r = simp (length-append, c, r)
+
+pub length-encode : (s : Session) → length (s .«sk_enc») ≡ 32 → length (s .«sk_mac») ≡ 32 → length (s .«sk_rmac») ≡ 32
+    → length (s .«command_mcv») ≡ 16 → length (s .«response_mcv») ≡ 16 → length (encode s) ≡ 138
+unfolding encode
+length-encode s e m r c p = simp length-append (omega (arith, length-header s, length-keys s e m r, length-mcvs s c p))
 
 pub record Headed (b : Bytes) : Type 0 where
   pub size : length b ≡ 138

@@ -100,7 +100,8 @@ fn put_mcvs(session: Session, out: &mut [u8], at: usize) -> usize
     put_bytes(out, r, &response_mcv)
 }
 
-fn put_session(session: Session, out: &mut [u8]) -> usize
+// Of any session: the caller has the room.
+pub fn put_session(session: Session, out: &mut [u8]) -> usize
     requires { ⌜ 138 ≤ length (now out) ⌝ }
     ensures { λ next. ⌜ Wrote (now (out .entry)) 0 (encode session) next (now (out .exit)) ⌝ }
 {

@@ -1,17 +1,16 @@
--- `Refusal/extra` meets its contract: one case for each refusal.
+-- `Refusal/status` meets its contract: one case for each refusal.
 -- Assumes nothing.
 use borrow.Author.Needs.{needs}
-use Rattle.refusal.proofs.Refusal.extra.Statement.{statement}
-use Rattle.refusal.proofs.Refusal.extra.Tie as tie
-use mathlib.Core.Path.{sym, ap, ap₂, _∙_}
-use Prim.Native.Nat.{ℕ, _+_, _*_}
-use Rattle.refusal.specs.Refusal.{extra}
+use Rattle.refusal.proofs.Refusal.status.Statement.{statement}
+use Rattle.refusal.proofs.Refusal.status.Tie as tie
+use mathlib.Core.Path.{sym, ap, _∙_}
+use Rattle.refusal.specs.Refusal.{status}
 
 returns-13 : tie.Need-returns-13
-returns-13 c = ap₂ (λ (a b : ℕ). a * 256 + b) (c .before .wide .ensures) (c .wide2 .ensures) ∙ sym (ap extra (c .before .before .before .self2 .given .1))
+returns-13 c = c .status-word .ensures ∙ sym (ap status (c .before .before .self .given .1))
 
-pub extra-spec : {M : Type 1} → statement M
-extra-spec =
+pub status-spec : {M : Type 1} → statement M
+status-spec =
     tie.close
     (tie.spec
     (λ c. search needs)
@@ -28,9 +27,6 @@ extra-spec =
     (λ c. search needs)
     (λ c. search needs)
     (λ c κs. search needs)
-    (λ c. search needs)
-    (λ c κs. search needs)
-    (λ c. search needs)
     (λ c. search needs)
     (λ c. search needs)
     (λ c. search needs)
