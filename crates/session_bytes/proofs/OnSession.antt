@@ -15,7 +15,8 @@ use Rattle.saved.specs.Saved.{encode, decode, unreadable}
 use Rattle.saved.specs.declared.Decoded.{Decoded}
 use Rattle.saved.specs.declared.Decoding.the-variants.{Decoded as Done, Refused}
 use Rattle.saved.proofs.EncodeDecode.{decoded-read}
-use Rattle.protocol.specs.Answer.{refused, Out}
+use Rattle.protocol.specs.Answer.{Answer, refused, Out, buffer}
+use Rattle.values.specs.declared.Values.{Values}
 use Rattle.session_bytes.specs.SessionBytes.{sessionIn, Served, servedBy, onSession}
 
 unread : {P : Type 0} {r : Refusal} → Refused r ≡ Done → P
@@ -30,20 +31,42 @@ read-room held len = go (leb len (length held))
     go true e = let h = decoded-read (take len held) e in omega (arith, h .first .size, length-take len held)
     go false e = unread e
 
--- where d was read, and where it was not
-module _ {A : Type 0} (held : Bytes) (len : ℕ) (call : Session → Out A) (d : Decoded) (same : d ≡ sessionIn held len) where
-  abbrev after : Out A → Served A
-  after out = record { answer = out .answer; session = over held (encode (out .next)); len = 138 }
+-- what an exported call gives: its numbers, the buffer of the session with the session's length, and the other buffer
+pub record Gives {A : Type 0} (values : Answer A → Values) (writes : A → Bytes) (before : Bytes) (x : Served A) (v : Values) (bytes : Bytes) (l : ℕ) (after : Bytes) : Type 0 where
+  pub numbers : v ≡ values (x .answer)
+  pub session : bytes ≡ x .session
+  pub len : l ≡ x .len
+  pub output : after ≡ buffer writes before (x .answer)
 
-  pub was-read : d .answer ≡ Done → onSession held len call ≡ after (call (d .session))
-  unfolding servedBy
-  was-read told =
-      ap (λ (x : Decoded). servedBy (x .answer) held len (call (x .session))) (sym same) ∙ ap (λ a. servedBy a held len (call (d .session))) told
-
-  pub was-not-read : (r : Refusal) → d .answer ≡ Refused r → onSession held len call ≡ record { answer = refused r; session = held; len = len }
-  unfolding servedBy
-  was-not-read r told =
-      ap (λ (x : Decoded). servedBy (x .answer) held len (call (x .session))) (sym same) ∙ ap (λ a. servedBy a held len (call (d .session))) told
+module _ {A : Type 0} (values : Answer A → Values) (writes : A → Bytes) (before held : Bytes) (len : ℕ) (call : Session → Out A) (d : Decoded) (same : d ≡ sessionIn held len) where
+  served-is : onSession held len call ≡ servedBy (d .answer) held len (call (d .session))
+  served-is = ap (λ (x : Decoded). servedBy (x .answer) held len (call (x .session))) (sym same)
 
   pub has-room : d .answer ≡ Done → 138 ≤ length held
   has-room told = read-room held len (ap (λ (x : Decoded). x .answer) (sym same) ∙ told)
+
+  -- where a session was read
+  pub was-read : d .answer ≡ Done → (v : Values) (session : Bytes) (l : ℕ) (after : Bytes)
+      → v ≡ values (call (d .session) .answer) → session ≡ over held (encode (call (d .session) .next)) → l ≡ 138 → after ≡ buffer writes before (call (d .session) .answer)
+      → Gives values writes before (onSession held len call) v session l after
+  unfolding servedBy
+  was-read told v session l after ev es el eb =
+      let e = served-is ∙ ap (λ a. servedBy a held len (call (d .session))) told in
+      record {
+        numbers = ev ∙ ap (λ (x : Served A). values (x .answer)) (sym e);
+        session = es ∙ ap (λ (x : Served A). x .session) (sym e);
+        len = el ∙ ap (λ (x : Served A). x .len) (sym e);
+        output = eb ∙ ap (λ (x : Served A). buffer writes before (x .answer)) (sym e);
+      }
+
+  -- where none was
+  pub was-not-read : (r : Refusal) → d .answer ≡ Refused r → (v : Values) → v ≡ values (refused r) → Gives values writes before (onSession held len call) v held len before
+  unfolding servedBy buffer
+  was-not-read r told v ev =
+      let e = served-is ∙ ap (λ a. servedBy a held len (call (d .session))) told in
+      record {
+        numbers = ev ∙ ap (λ (x : Served A). values (x .answer)) (sym e);
+        session = ap (λ (x : Served A). x .session) (sym e);
+        len = ap (λ (x : Served A). x .len) (sym e);
+        output = ap (λ (x : Served A). buffer writes before (x .answer)) (sym e);
+      }

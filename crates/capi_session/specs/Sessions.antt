@@ -1,0 +1,41 @@
+-- The calls of c/pivsm.h that open and close a session. Assumes nothing.
+use Prim.Native.Nat.{ℕ}
+use lib.Dec.{leb}
+use Rattle.octets.specs.Bytes.{Bytes}
+use Rattle.refusal.specs.declared.Refusal.the-variants.{BufferTooSmall}
+use Rattle.stored_keys.specs.StoredKeys.{Keys}
+use Rattle.session.specs.Session.{closed}
+use Rattle.session.specs.Opening.{opening}
+use Rattle.session.specs.declared.Side.{Side}
+use Rattle.session.specs.declared.Session.{Session}
+use Rattle.session.specs.declared.Opened.{Opened}
+use Rattle.session.specs.declared.Opening.{Opening}
+use Rattle.session.specs.declared.Opening.the-variants.{Opened as Done, Refused}
+use Rattle.saved.specs.Saved.{encode}
+use Rattle.protocol.specs.Answer.{Answer, refused, gave, require_else_⨾_}
+use Rattle.results.specs.Results.{wrapAnswer}
+use Rattle.values.specs.Values.{given, refusalValues, wrapValues}
+use Rattle.values.specs.declared.Values.{Values}
+use Rattle.session_bytes.specs.SessionBytes.{Served, onSession}
+
+-- the bytes of the session that was opened: 6 where there is no room for them, after 11 and 12
+unfoldable pub openedAs : Opening → Session → ℕ → Answer Bytes
+openedAs Done s room = require leb 138 room else BufferTooSmall 138 ⨾ gave (encode s)
+openedAs (Refused r) s room = refused r
+
+abbrev pub bytesOf : Opened → ℕ → Answer Bytes
+bytesOf opened room = openedAs (opened .answer) (opened .session) room
+
+abbrev pub openOn : Side → ℕ → Keys → ℕ → Answer Bytes
+openOn side suite k room = bytesOf (opening side suite k) room
+
+abbrev pub openGives : Answer Bytes → Values
+openGives answer = wrapValues (wrapAnswer answer)
+
+-- closing always succeeds, where there is a session
+abbrev pub closeOn : Bytes → ℕ → Served (Unit {0})
+closeOn held len = onSession held len (λ s. record { answer = gave tt; next = closed s })
+
+abbrev pub closeValues : Answer (Unit {0}) → Values
+closeValues (refused r) = refusalValues r
+closeValues (gave u) = given 0 0 0
