@@ -1,0 +1,30 @@
+-- The calls of c/pivsm.h on response chaining. A chain is one number for a program in C, the length reassembled; 0 is the empty chain.
+-- Assumes nothing.
+use Prim.Native.Nat.{ℕ, _/_, _%_}
+use lib.Dec.{leb}
+use Rattle.octets.specs.Bytes.{Bytes}
+use Rattle.refusal.specs.declared.Refusal.the-variants.{BufferTooSmall}
+use Rattle.protocol.specs.Message.{status}
+use Rattle.protocol.specs.Answer.{Answer, gave, require_else_⨾_}
+use Rattle.results.specs.Results.{wrapAnswer}
+use Rattle.response_chaining.specs.Fragment.{next, fragmentResponse, fragmentAnswer}
+use Rattle.response_chaining.specs.Reassembly.{chain, getResponse, reassembleResponse}
+use Rattle.response_chaining.specs.declared.ResponseReassembly.{ResponseReassembly}
+use Rattle.values.specs.Values.{wrapValues, responseFragmentValues}
+use Rattle.values.specs.declared.Values.{Values}
+
+-- sw: the status word, SW1 * 256 + SW2
+abbrev pub fragmentOf : ℕ → Bytes → ℕ → ℕ → ℕ → Answer Bytes
+fragmentOf sw field at le room = fragmentResponse (status (sw / 256) (sw % 256)) field at le room
+
+abbrev pub fragmentGives : Bytes → ℕ → ℕ → Answer Bytes → Values
+fragmentGives field at le answer = responseFragmentValues (fragmentAnswer (next field at le) answer)
+
+abbrev pub reassembleOn : ℕ → Bytes → ℕ → ResponseReassembly
+reassembleOn n bytes room = reassembleResponse (chain n) bytes room
+
+unfoldable pub getResponseOf : ℕ → ℕ → Answer Bytes
+getResponseOf le room = require leb 5 room else BufferTooSmall 5 ⨾ gave (getResponse le)
+
+abbrev pub getResponseGives : Answer Bytes → Values
+getResponseGives answer = wrapValues (wrapAnswer answer)

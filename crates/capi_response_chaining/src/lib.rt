@@ -1,0 +1,83 @@
+// Response chaining for programs in C (c/pivsm.h).
+use fragment_response::fragment_response;
+use octets::put_bytes;
+use reassemble_response::get_response;
+use reassemble_response::reassemble_response;
+use response_chaining::ResponseChain;
+use values::response_fragment_values;
+use values::response_reassembly_values;
+ghost use mathlib.Core.Path.{_≡_};
+ghost use lib.ListN.{length};
+ghost use Rattle.protocol.specs.Answer.{buffer};
+ghost use Rattle.response_chaining.specs.Reassembly.{chain as chainOf, reassemblyBuffer};
+ghost use Rattle.values.specs.Values.{responseReassemblyValues};
+ghost use Rattle.capi_response_chaining.specs.ResponseChains.{fragmentOf, fragmentGives, reassembleOn, getResponseOf, getResponseGives};
+
+// Refusals 3, 4, 14 and 6.
+#[no_mangle]
+pub extern "C" fn pivsm_fragment_response(
+    sw: u16,
+    field: &[u8],
+    at: usize,
+    le: u8,
+    apdu: &mut [u8],
+    written: &mut usize,
+    next: &mut usize,
+) -> u32
+    ensures number { λ number. ⌜ number ≡ fragmentGives (now (field .entry)) at le (fragmentOf sw (now (field .entry)) at le (length (now (apdu .entry)))) .number ⌝ }
+    ensures written { λ _. ⌜ now (written .exit) ≡ fragmentGives (now (field .entry)) at le (fragmentOf sw (now (field .entry)) at le (length (now (apdu .entry)))) .len ⌝ }
+    ensures next { λ _. ⌜ now (next .exit) ≡ fragmentGives (now (field .entry)) at le (fragmentOf sw (now (field .entry)) at le (length (now (apdu .entry)))) .next ⌝ }
+    ensures apdu { λ _. ⌜ now (apdu .exit) ≡ buffer (λ bytes. bytes) (now (apdu .entry)) (fragmentOf sw (now (field .entry)) at le (length (now (apdu .entry)))) ⌝ }
+{
+    let sw1 = (sw / 256) as u8;
+    let sw2 = (sw % 256) as u8;
+    let answer = fragment_response(sw1, sw2, field, at, le, apdu);
+    let values = response_fragment_values(answer);
+    *written = values.len;
+    *next = values.next;
+    values.number
+}
+
+// Refusals 7, 14, 4 and 6.
+#[no_mangle]
+pub extern "C" fn pivsm_reassemble_response(
+    chain: &mut u64,
+    apdu: &[u8],
+    field: &mut [u8],
+    written: &mut usize,
+    sw: &mut u16,
+) -> u32
+    ensures number { λ number. ⌜ number ≡ responseReassemblyValues (reassembleOn (now (chain .entry)) (now (apdu .entry)) (length (now (field .entry))) .answer) .number ⌝ }
+    ensures written { λ _. ⌜ now (written .exit) ≡ responseReassemblyValues (reassembleOn (now (chain .entry)) (now (apdu .entry)) (length (now (field .entry))) .answer) .len ⌝ }
+    ensures sw { λ _. ⌜ now (sw .exit) ≡ responseReassemblyValues (reassembleOn (now (chain .entry)) (now (apdu .entry)) (length (now (field .entry))) .answer) .status ⌝ }
+    ensures chain { λ _. ⌜ now (chain .exit) ≡ reassembleOn (now (chain .entry)) (now (apdu .entry)) (length (now (field .entry))) .chain .len ⌝ }
+    ensures field { λ _. ⌜ now (field .exit) ≡ reassemblyBuffer (chainOf (now (chain .entry))) (now (apdu .entry)) (now (field .entry)) ⌝ }
+{
+    let held = ResponseChain {
+        len: *chain as usize,
+    };
+    let result = reassemble_response(held, apdu, field);
+    let answer = result.answer;
+    let left = result.chain;
+    *chain = left.len as u64;
+    let values = response_reassembly_values(answer);
+    *written = values.len;
+    *sw = values.status;
+    values.number
+}
+
+// Refusal 6.
+#[no_mangle]
+pub extern "C" fn pivsm_get_response(le: u8, apdu: &mut [u8], written: &mut usize) -> u32
+    ensures number { λ number. ⌜ number ≡ getResponseGives (getResponseOf le (length (now (apdu .entry)))) .number ⌝ }
+    ensures written { λ _. ⌜ now (written .exit) ≡ getResponseGives (getResponseOf le (length (now (apdu .entry)))) .len ⌝ }
+    ensures apdu { λ _. ⌜ now (apdu .exit) ≡ buffer (λ bytes. bytes) (now (apdu .entry)) (getResponseOf le (length (now (apdu .entry)))) ⌝ }
+{
+    *written = 5;
+    if apdu.len() < 5 {
+        return 6;
+    }
+    let bytes = get_response(le);
+    put_bytes(apdu, 0, &bytes);
+    0
+}
