@@ -4,7 +4,7 @@ use data_object::Breach;
 use data_object::DataObject;
 use data_object::ObjectRead;
 use data_object::Rule;
-use data_object::read_object;
+use reader::read_at;
 use wanted::Need;
 use wanted::Wanted;
 use wanted::rank;
@@ -124,14 +124,15 @@ pub fn read_field(wanted: Wanted, field: &[u8]) -> FieldRead
     let mut place: usize = 0;
     let mut at: usize = 0;
     while at < field.len() {
-        let read = read_object(wanted, place, field, at);
+        let step = read_at(wanted, place, field, at);
+        let read = step.read;
         let ObjectRead::Object(object) = read else {
             return refused(read);
         };
         let more = noted(objects, object);
         objects = more;
         place = rank(second, object.tag);
-        at = object.next;
+        at = step.at;
     }
     ended(wanted, objects, place, field.len())
 }

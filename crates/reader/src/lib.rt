@@ -1,0 +1,73 @@
+// A reader that keeps the lent field and its place (document 01, "Objects, encryption and MAC").
+use data_object::ObjectRead;
+use data_object::read_object;
+use wanted::Wanted;
+ghost use mathlib.Core.Path.{_≡_};
+ghost use Prim.Native.Nat.{_<_};
+ghost use lib.ListN.{length};
+ghost use Rattle.data_object.specs.Object.{readObject};
+ghost use Rattle.reader.specs.Reader.{opened, moved, indexAfter, readStep};
+
+// The field, and the index of the next object.
+pub struct Reader<'a> {
+    field: &'a [u8],
+    at: usize,
+}
+
+// What a reader read, and its index then.
+pub struct Step {
+    pub read: ObjectRead,
+    pub at: usize,
+}
+
+// Behind an object; a breach is not passed.
+fn index_after(read: ObjectRead, at: usize) -> usize
+    ensures { λ r. ⌜ r ≡ indexAfter read at ⌝ }
+{
+    match read {
+        ObjectRead::Object(object) => object.next,
+        ObjectRead::Malformed(_) => at,
+    }
+}
+
+// The work of a reader at index `at`, on the field itself.
+fn read_step(wanted: Wanted, after: usize, field: &[u8], at: usize) -> Step
+    requires { ⌜ at < length (now field) ⌝ }
+    ensures { λ r. ⌜ r ≡ readStep wanted after (now (field .entry)) at ⌝ }
+{
+    let read = read_object(wanted, after, field, at);
+    let next = index_after(read, at);
+    Step { read, at: next }
+}
+
+impl<'a> Reader<'a> {
+    pub fn new(field: &'a [u8], at: usize) -> Reader<'a>
+        ensures { λ reader. ⌜ reader ≡ opened (field .entry) at ⌝ }
+    {
+        Reader { field, at }
+    }
+
+    // Reads the object at the reader's index, after one at place `after` of the side's list, and moves behind it.
+    pub fn next(&mut self, wanted: Wanted, after: usize) -> ObjectRead
+        requires { ⌜ now self .at < length (now (now self .field)) ⌝ }
+        ensures read { λ read. ⌜ read ≡ readObject wanted after (now (now (self .entry) .field)) (now (self .entry) .at) ⌝ }
+        ensures reader { λ read. ⌜ now (self .exit) ≡ moved (now (self .entry)) read ⌝ }
+    {
+        let step = read_step(wanted, after, self.field, self.at);
+        self.at = step.at;
+        step.read
+    }
+}
+
+// One step of a reader at index `at`. A caller needs no Reader, and so no proof by hand.
+pub fn read_at(wanted: Wanted, after: usize, field: &[u8], at: usize) -> Step
+    requires { ⌜ at < length (now field) ⌝ }
+    ensures { λ r. ⌜ r ≡ readStep wanted after (now (field .entry)) at ⌝ }
+{
+    let mut reader = Reader::new(field, at);
+    let read = reader.next(wanted, after);
+    Step {
+        read,
+        at: reader.at,
+    }
+}
