@@ -1,0 +1,5 @@
+pub mod SessionLengths
+pub mod HandedOn
+pub mod ServedCall
+pub mod Told
+pub mod RefusalKept
