@@ -6,3 +6,5 @@ pub mod RefusalKept
 pub mod OpenServed
 pub mod OpenedBytes
 pub mod Step
+pub mod Runs
+pub mod Theorems
