@@ -29,7 +29,7 @@ use Rattle.saved.specs.Saved.{encode}
 use Rattle.protocol.specs.Answer.{Answer, refused, gave, require_else_⨾_, buffer}
 use Rattle.results.specs.Results.{wrapAnswer}
 use Rattle.values.specs.Values.{wrapValues}
-use Rattle.capi_session.specs.Sessions.{openedAs, openOn}
+use Rattle.capi_open.specs.OpenOn.{openedAs, openOn}
 use Rattle.capi_demands.proofs.SessionLengths.{Lengths}
 
 never : {P : Type 0} → _≡_ {A = ℕ} 0 1 → P

@@ -16,7 +16,7 @@ use Rattle.protocol.specs.Transcript.{Gives, does}
 use Rattle.results.specs.Results.{wrapAnswer, commandAnswer, responseAnswer}
 use Rattle.values.specs.Values.{wrapValues, commandValues, responseValues}
 use Rattle.session_bytes.specs.SessionBytes.{Served}
-use Rattle.capi_session.specs.Sessions.{closeValues}
+use Rattle.capi_close.specs.CloseOn.{closeValues}
 use Rattle.capi_demands.specs.Calls.{Event, wrapsCommand, unwrapsCommand, wrapsResponse, unwrapsResponse, closes, held, len, heldAfter, lenAfter, before, after, number, written, status, le, call}
 use Rattle.capi_demands.proofs.ServedCall.{servedCall}
 

@@ -8,20 +8,20 @@ use contract.Lifetimes.{Lfts}
 use denote.Ref.{now}
 use denote.Triple.Clauses.{AtExit}
 use borrow.Fn.Kinds.{Dens, endedOf}
-use Rattle.capi_session.proofs.pivsm_open_host.Reads as open-host
-use Rattle.capi_session.proofs.pivsm_open_host.Kinds as open-host-kinds
-use Rattle.capi_session.proofs.pivsm_open_card.Reads as open-card
-use Rattle.capi_session.proofs.pivsm_open_card.Kinds as open-card-kinds
-use Rattle.capi_session.proofs.pivsm_close.Reads as close
-use Rattle.capi_session.proofs.pivsm_close.Kinds as close-kinds
-use Rattle.capi_command.proofs.pivsm_wrap_command.Reads as wrap-command
-use Rattle.capi_command.proofs.pivsm_wrap_command.Kinds as wrap-command-kinds
-use Rattle.capi_command.proofs.pivsm_unwrap_command.Reads as unwrap-command
-use Rattle.capi_command.proofs.pivsm_unwrap_command.Kinds as unwrap-command-kinds
-use Rattle.capi_response.proofs.pivsm_wrap_response.Reads as wrap-response
-use Rattle.capi_response.proofs.pivsm_wrap_response.Kinds as wrap-response-kinds
-use Rattle.capi_response.proofs.pivsm_unwrap_response.Reads as unwrap-response
-use Rattle.capi_response.proofs.pivsm_unwrap_response.Kinds as unwrap-response-kinds
+use Rattle.capi_open.proofs.pivsm_open_host.Reads as open-host
+use Rattle.capi_open.proofs.pivsm_open_host.Kinds as open-host-kinds
+use Rattle.capi_open.proofs.pivsm_open_card.Reads as open-card
+use Rattle.capi_open.proofs.pivsm_open_card.Kinds as open-card-kinds
+use Rattle.capi_close.proofs.pivsm_close.Reads as close
+use Rattle.capi_close.proofs.pivsm_close.Kinds as close-kinds
+use Rattle.capi_wrap_command.proofs.pivsm_wrap_command.Reads as wrap-command
+use Rattle.capi_wrap_command.proofs.pivsm_wrap_command.Kinds as wrap-command-kinds
+use Rattle.capi_unwrap_command.proofs.pivsm_unwrap_command.Reads as unwrap-command
+use Rattle.capi_unwrap_command.proofs.pivsm_unwrap_command.Kinds as unwrap-command-kinds
+use Rattle.capi_wrap_response.proofs.pivsm_wrap_response.Reads as wrap-response
+use Rattle.capi_wrap_response.proofs.pivsm_wrap_response.Kinds as wrap-response-kinds
+use Rattle.capi_unwrap_response.proofs.pivsm_unwrap_response.Reads as unwrap-response
+use Rattle.capi_unwrap_response.proofs.pivsm_unwrap_response.Kinds as unwrap-response-kinds
 use Rattle.octets.specs.Bytes.{Bytes}
 use Rattle.refusal.specs.declared.Refusal.the-variants.{BadSession}
 use Rattle.stored_keys.specs.StoredKeys.{Keys, keys}
