@@ -75,7 +75,7 @@ static void card_unwraps(const char *name, struct session *s, const uint8_t *fie
 {
     size_t data_len;
     uint32_t result;
-    bool le;
+    bool le = false;
 
     begin("card unwraps", name);
     result = pivsm_unwrap_command(s->bytes, sizeof s->bytes, &s->len, GET_DATA, P1, P2, field, len, out, room,
@@ -167,7 +167,7 @@ static struct session busy_card(void)
     uint8_t field[PIVSM_COMMAND_FIELD_MAX], room[16];
     struct session card = opened(true);
     size_t len;
-    bool le;
+    bool le = false;
 
     waiting_host(data, sizeof data, field);
     must(pivsm_unwrap_command(card.bytes, sizeof card.bytes, &card.len, GET_DATA, P1, P2, field, 32, room, sizeof room,

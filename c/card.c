@@ -99,7 +99,7 @@ static size_t handle_command(struct card *card, uint8_t ins, uint8_t p1, uint8_t
 {
     uint8_t data[PIVSM_COMMAND_CIPHERTEXT_MAX], response[2048];
     size_t data_len, response_len;
-    bool le;
+    bool le = false;
 
     if (pivsm_unwrap_command(card->session, sizeof card->session, &card->session_len, ins, p1, p2, card->command,
                              field_len, data, sizeof data, &data_len, &le) != PIVSM_OK)

@@ -95,7 +95,7 @@ static void send_command(struct end *host, struct end *card, const struct comman
     static struct carried got;
     uint8_t field[PIVSM_COMMAND_FIELD_MAX], data[PIVSM_COMMAND_CIPHERTEXT_MAX];
     size_t field_len, data_len;
-    bool le;
+    bool le = false;
 
     printf("command: %s\n", c->name);
     must(pivsm_wrap_command(host->session, sizeof host->session, &host->session_len, c->ins, c->p1, c->p2, c->le,

@@ -34,8 +34,8 @@
  * BUFFERS. A buffer is a pointer and a length in bytes: x_len says how many bytes there are to read, x_size how
  * many may be written. (NULL, 0) is an empty buffer. No two buffers or numbers that are lent to one call may
  * overlap if the call writes one of them. A pointer to a number must not be NULL; the number is written at every
- * result, unless the call says otherwise. A bool must be true or false, no other byte. A call writes to a buffer
- * on PIVSM_OK only, and then only as many bytes as the length that it gives: the bytes behind those are the
+ * result, unless the call says otherwise. A bool must be true or false before a call, too. A call writes to a
+ * buffer on PIVSM_OK only, and then only as many bytes as the length that it gives: the bytes behind those are the
  * caller's old ones. (The session alone is also written on PIVSM_BAD_MAC and PIVSM_BAD_PADDING, which close it.)
  *
  * RESULTS. Each call returns PIVSM_OK or the first refusal that applies, in the order in which the call lists
