@@ -108,16 +108,18 @@ build/bench_messages: c/bench_messages.c c/turns.c c/plain_aes.c c/ciphers.c c/p
 
 $(PRINTED:%=build/%) $(addprefix build/,vectors differential differential_sanitized compare bench bench_messages): $(HEADERS) | packages build
 
-# rt check proves on all processors, rt staticlib on one; rt knows what is already proved, as after rt ci.
+# rt check proves on all processors, rt staticlib on one; rt knows what is already proved, as after rt ci. Two rt at a
+# time would be in each other's way. Each crate's archive is one object, with its exported calls alone.
 build/libpivsm.a: $(CODE) | packages build
 	@rt check $(CALLS)
-	@for crate in $(CALLS); do rt staticlib $$crate && (cd build && ar x ../target/staticlib/lib$$crate.a) || exit 1; done
+	@for crate in $(CALLS); do rt staticlib $$crate >build/log 2>&1 || { cat build/log; exit 1; }; done
+	@cd build && for crate in $(CALLS); do ar x ../target/staticlib/lib$$crate.a || exit 1; done
 	@rm -f $@
 	@ar rcs $@ $(CALLS:%=build/%.o)
 
 build/libprimitives.a: $(CODE) | packages build
 	@rt check primitives
-	@rt staticlib primitives
+	@rt staticlib primitives >build/log 2>&1 || { cat build/log; exit 1; }
 	@cp target/staticlib/libprimitives.a $@
 
 # Each installs what is missing.
