@@ -17,8 +17,8 @@ SANITIZE = -g -fsanitize=address,undefined -fno-sanitize-recover=all
 export TMPDIR := $(shell t=/dev/shm/make.$$$$; { cp /bin/true $$t && $$t && test $$(df -Pk /dev/shm | awk 'END { print $$4 }') -gt 2000000; } 2>/dev/null && \
     echo /dev/shm || echo $${TMPDIR:-/tmp}; rm -f $$t)
 
-# The crates with the calls of c/pivsm.h.
-CALLS = capi_session capi_command capi_response capi_command_chaining capi_response_chaining
+# The crates that export the calls of c/pivsm.h.
+CALLS = $(patsubst crates/%/src/lib.rt,%,$(shell grep -l 'pub extern "C" fn' crates/capi_*/src/lib.rt))
 # Programs whose output stands in c/NAME.stdout; that of exchange_calls is exchange's.
 PRINTED = example exchange exchange_calls boundary_cases
 DIFFERENTIAL = $(filter-out %/vectors.c,$(wildcard c/differential/*.c)) c/reference.c
