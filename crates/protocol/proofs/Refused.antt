@@ -51,7 +51,7 @@ unfolding require_else_⨾_
 require-among {A} ns true q rest m f = f
 require-among {A} ns false q rest m f = is-refusal A ns q m
 
-then-among : {A B : Type 0} (ns : List ℕ) (a : Answer A) (more : A → Answer B) → Among ns a → ((x : A) → Among ns (more x)) → Among ns (a and-then more)
+pub then-among : {A B : Type 0} (ns : List ℕ) (a : Answer A) (more : A → Answer B) → Among ns a → ((x : A) → Among ns (more x)) → Among ns (a and-then more)
 unfolding _and-then_
 then-among {A} {B} ns (refused q) more f g = is-refusal B ns q (f q refl)
 then-among {A} {B} ns (gave x) more f g = g x
@@ -59,18 +59,18 @@ then-among {A} {B} ns (gave x) more f g = g x
 pub gave-among : {A : Type 0} (ns : List ℕ) (x : A) → Among ns (gave x)
 gave-among ns x r e = no-refusal e
 
-concluded-among : {A : Type 0} (ns : List ℕ) (s : Session) (a : Answer (Outcome A)) → Among ns a → Among ns (concluded s a .answer)
+pub concluded-among : {A : Type 0} (ns : List ℕ) (s : Session) (a : Answer (Outcome A)) → Among ns a → Among ns (concluded s a .answer)
 unfolding concluded
 concluded-among {A} ns s (refused q) f = is-refusal A ns q (f q refl)
 concluded-among {A} ns s (gave x) f = gave-among ns (x .gives)
 
-objects-among : (ns : List ℕ) (read : FieldRead) → List·Memᴰ 7 ns → List·Memᴰ 8 ns → Among ns (objectsOf read)
+pub objects-among : (ns : List ℕ) (read : FieldRead) → List·Memᴰ 7 ns → List·Memᴰ 8 ns → Among ns (objectsOf read)
 unfolding objectsOf
 objects-among ns (Read o) a b = gave-among ns o
 objects-among ns (BadField x) a b = is-refusal Objects ns Malformed a
 objects-among ns (Missing tag end) a b = is-refusal Objects ns MissingObject b
 
-text-among : (ns : List ℕ) (t : Option Bytes) → List·Memᴰ 10 ns → Among ns (textOf t)
+pub text-among : (ns : List ℕ) (t : Option Bytes) → List·Memᴰ 10 ns → Among ns (textOf t)
 unfolding textOf
 text-among ns (some d) a = gave-among ns d
 text-among ns none a = is-refusal Bytes ns BadPadding a

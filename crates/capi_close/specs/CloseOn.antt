@@ -1,0 +1,16 @@
+-- pivsm_close of c/pivsm.h: the library's closing of the session that the bytes hold. Assumes nothing.
+use Prim.Native.Nat.{ℕ}
+use Rattle.octets.specs.Bytes.{Bytes}
+use Rattle.session.specs.Session.{closed}
+use Rattle.protocol.specs.Answer.{Answer, refused, gave}
+use Rattle.values.specs.Values.{given, refusalValues}
+use Rattle.values.specs.declared.Values.{Values}
+use Rattle.session_bytes.specs.SessionBytes.{Served, onSession}
+
+-- closing always succeeds, where there is a session
+abbrev pub closeOn : Bytes → ℕ → Served (Unit {0})
+closeOn held len = onSession held len (λ s. record { answer = gave tt; next = closed s })
+
+abbrev pub closeValues : Answer (Unit {0}) → Values
+closeValues (refused r) = refusalValues r
+closeValues (gave u) = given 0 0 0

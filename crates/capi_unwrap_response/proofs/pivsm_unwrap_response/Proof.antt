@@ -1,0 +1,52 @@
+-- `pivsm_unwrap_response` meets its contract: the unwrap on the session that was read, or 16. Assumes nothing.
+use mathlib.Core.Path.{_≡_, ap, _∙_}
+use Prim.Native.Nat.{ℕ, _/_, _%_}
+use lib.ListN.{length}
+use borrow.Author.Needs.{needs}
+use Rattle.octets.specs.Bytes.{Bytes}
+use Rattle.octets.specs.Write.{over}
+use Rattle.session.specs.declared.Session.{Session}
+use Rattle.saved.specs.Saved.{encode}
+use Rattle.protocol.specs.Answer.{Out}
+use Rattle.protocol.specs.Message.{Response}
+use Rattle.results.specs.Results.{responseAnswer}
+use Rattle.results.specs.declared.ResponseResult.{ResponseResult}
+use Rattle.values.specs.Values.{responseValues}
+use Rattle.values.specs.declared.Values.{Values}
+use Rattle.session_bytes.proofs.OnSession.{was-read, was-not-read, has-room}
+use Rattle.unwrap_response.specs.UnwrapResponse.{unwrapResponse, payloadOf}
+use Rattle.capi_unwrap_response.proofs.pivsm_unwrap_response.Statement.{statement}
+use Rattle.capi_unwrap_response.proofs.pivsm_unwrap_response.Tie as tie
+
+-- the call, of a session
+abbrev call : ℕ → Bytes → ℕ → Session → Out Response
+call sw field room s = unwrapResponse s (sw / 256) (sw % 256) field room
+
+replace-session-requires : tie.Need-replace-session-requires
+replace-session-requires c κs =
+    let a = c .before .before .before .before .before .before .before .before .before .before .before .before .before .before .before .args in
+    has-room (λ x. responseValues (responseAnswer x)) payloadOf (a .«data» .now) (a .session .now) (a .len .now) (call (a .sw) (a .field .now) (length (a .«data» .now))) _
+    (c .before .before .before .before .before .before .before .before .before .session-in .ensures .0) (c .before .before .before .before .before .before .enum-told .given .1)
+
+returns : tie.Need-returns
+returns c =
+    let a = c .before .before .before .before .before .before .before .before .before .before .before .before .before .before .before .before .before .before .before .args in
+    let read = c .before .before .before .before .before .before .before .before .before .before .before .before .before .session-in in
+    let w = c .before .before .before .before .before .before .before .before .unwrap-response .ensures in
+    let r = c .before .before .before .replace-session .ensures in
+    let g = was-read (λ x. responseValues (responseAnswer x)) payloadOf (a .«data» .now) (a .session .now) (a .len .now) (call (a .sw) (a .field .now) (length (a .«data» .now))) _
+    (read .ensures .0) (c .before .before .before .before .before .before .before .before .before .before .enum-told .given .1) _ _ _ _
+    (c .response-values .ensures ∙ ap (λ (x : ResponseResult). responseValues (x .answer)) (w .0))
+    (r .1 ∙ ap (λ (x : ResponseResult). over (a .session .now) (encode (x .session))) (w .0)) (r .0) (w .1) in
+    (ap (λ (x : Values). x .number) (g .numbers), (ap (λ (x : Values). x .len) (g .numbers), (ap (λ (x : Values). x .status) (g .numbers), (g .session, (g .len, (g .output, read .ensures .1))))))
+
+returns-2 : tie.Need-returns-2
+returns-2 c =
+    let a = c .before .before .before .before .before .before .before .before .before .before .before .args in
+    let read = c .before .before .before .before .before .session-in in
+    let g = was-not-read (λ x. responseValues (responseAnswer x)) payloadOf (a .«data» .now) (a .session .now) (a .len .now) (call (a .sw) (a .field .now) (length (a .«data» .now))) _
+    (read .ensures .0) _ (c .before .before .read .given .1) _ (c .refusal-values .ensures) in
+    (ap (λ (x : Values). x .number) (g .numbers), (ap (λ (x : Values). x .len) (g .numbers), (ap (λ (x : Values). x .status) (g .numbers), (g .session, (g .len, (g .output, read .ensures .1))))))
+
+pub pivsm-unwrap-response-spec : {M : Type 1} → statement M
+pivsm-unwrap-response-spec = tie.close (tie.spec (λ c. search needs) (λ c. search needs) (λ c κs. search needs) (λ c. search needs) (λ c κs. search needs) replace-session-requires (λ c κs. search needs) (λ c. search needs) (λ c κs. search needs) (λ c. search needs) (λ c. search needs) returns (λ c. search needs) returns-2)

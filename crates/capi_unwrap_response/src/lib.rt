@@ -1,0 +1,57 @@
+// The host unwraps a response, for programs in C (c/pivsm.h), on the bytes of a session.
+use saved::Decoding;
+use session_bytes::replace_session;
+use session_bytes::session_in;
+use unwrap_response::unwrap_response;
+use values::refusal_values;
+use values::response_values;
+ghost use mathlib.Core.Path.{_≡_};
+ghost use lib.ListN.{length};
+ghost use Rattle.octets.specs.Bytes.{IsBytes};
+ghost use Rattle.protocol.specs.Answer.{buffer};
+ghost use Rattle.unwrap_response.specs.UnwrapResponse.{payloadOf};
+ghost use Rattle.capi_unwrap_response.specs.UnwrapOn.{unwrapOn, unwrapGives};
+
+// Refusals 16, 1, 2, 13, 4, 7 or 8, 6, 9 and 10. `bytes` is what the types say of the arguments; the demands use it.
+#[no_mangle]
+pub extern "C" fn pivsm_unwrap_response(
+    session: &mut [u8],
+    len: &mut usize,
+    sw: u16,
+    field: &[u8],
+    data: &mut [u8],
+    written: &mut usize,
+    status: &mut u16,
+) -> u32
+    ensures number { λ number. ⌜ number ≡ unwrapGives (unwrapOn (now (session .entry)) (now (len .entry)) sw (now (field .entry)) (length (now («data» .entry)))) .number ⌝ }
+    ensures written { λ _. ⌜ now (written .exit) ≡ unwrapGives (unwrapOn (now (session .entry)) (now (len .entry)) sw (now (field .entry)) (length (now («data» .entry)))) .len ⌝ }
+    ensures status { λ _. ⌜ now (status .exit) ≡ unwrapGives (unwrapOn (now (session .entry)) (now (len .entry)) sw (now (field .entry)) (length (now («data» .entry)))) .status ⌝ }
+    ensures session { λ _. ⌜ now (session .exit) ≡ unwrapOn (now (session .entry)) (now (len .entry)) sw (now (field .entry)) (length (now («data» .entry))) .session ⌝ }
+    ensures len { λ _. ⌜ now (len .exit) ≡ unwrapOn (now (session .entry)) (now (len .entry)) sw (now (field .entry)) (length (now («data» .entry))) .len ⌝ }
+    ensures data { λ _. ⌜ now («data» .exit) ≡ buffer payloadOf (now («data» .entry)) (unwrapOn (now (session .entry)) (now (len .entry)) sw (now (field .entry)) (length (now («data» .entry))) .answer) ⌝ }
+    ensures bytes { λ _. ⌜ IsBytes (now (session .entry)) ⌝ }
+{
+    let sw1 = (sw / 256) as u8;
+    let sw2 = (sw % 256) as u8;
+    let decoded = session_in(session, *len);
+    let read = decoded.answer;
+    let held = decoded.session;
+    match read {
+        Decoding::Decoded => {
+            let result = unwrap_response(held, sw1, sw2, field, data);
+            let answer = result.answer;
+            let next = result.session;
+            *len = replace_session(next, session);
+            let values = response_values(answer);
+            *written = values.len;
+            *status = values.status;
+            values.number
+        }
+        Decoding::Refused(refusal) => {
+            let values = refusal_values(refusal);
+            *written = values.len;
+            *status = values.status;
+            values.number
+        }
+    }
+}
