@@ -1,15 +1,31 @@
-# make test    the format, every proof and program (rt ci), and the C programs beside OpenSSL
-# make demo    the exchange of a host and a card, and the standards' examples, computed by the proved code
-# make bench   speed beside plain C and other libraries
+# make test          the gate: the format, every proof and program (rt ci), then the C programs over what was proved
+# make demo          a host reads a card through the C interface (c/example.c): a transcript
+# make install       libpivsm.a, pivsm.h and pivsm.pc, under PREFIX, put below DESTDIR
+# make differential  the library beside a second implementation over OpenSSL: CASES cases of SEED
+# make mutants       whether that comparison notices 222 mistakes
+# make bench         speed beside plain C and other libraries
 #
 # Needs Rattle's rt on the PATH. gcc and the libraries' headers are installed where they are missing.
+PREFIX = /usr/local
+CASES = 200000
+SEED = 80073
+VERSION = 4.0
 CFLAGS = -O3 -Wall -Wextra
+C99 = gcc -std=c99 -O2 -Wall -Wextra -Wpedantic -Ic
+SANITIZE = -g -fsanitize=address,undefined -fno-sanitize-recover=all
 # Each check writes up to 200 MB to a temporary folder: in memory, where programs can run there and 2 GB are free, that takes a fraction of the time.
 export TMPDIR := $(shell t=/dev/shm/make.$$$$; { cp /bin/true $$t && $$t && test $$(df -Pk /dev/shm | awk 'END { print $$4 }') -gt 2000000; } 2>/dev/null && \
     echo /dev/shm || echo $${TMPDIR:-/tmp}; rm -f $$t)
-DEMOS = vectors_fips197 vectors_sp800_38a vectors_sp800_38b exchange
 
-test: format exchange gate compare
+# The crates that export the calls of c/pivsm.h.
+CALLS = $(patsubst crates/%/src/lib.rt,%,$(shell grep -l 'pub extern "C" fn' crates/capi_*/src/lib.rt))
+# Programs whose output stands in c/NAME.stdout; that of exchange_calls is exchange's.
+PRINTED = example exchange exchange_calls boundary_cases
+DIFFERENTIAL = $(filter-out %/vectors.c,$(wildcard c/differential/*.c)) c/reference.c
+HEADERS = $(wildcard c/*.h c/differential/*.h)
+CODE = crates.txt $(shell find crates -name '*.rt')
+
+test: format gate header vectors differential sanitized printed compare
 	@tail -n 1 build/gate
 
 # Four at a time: rt waits for the slowest of those that it starts together, and each runs on one processor.
@@ -18,60 +34,108 @@ gate: build
 	@{ RT_JOBS=4 rt ci; echo $$? >build/status; } | tee build/gate
 	@test "$$(cat build/status)" = 0
 
-demo:
-	@rt check $(DEMOS)
-	@for program in $(DEMOS); do target/bin/$$program || exit 1; done
+# tables.rt stands 16 to a row, as in the standard; the formatter would put each entry on its own line.
+format: build
+	@rt fmt --check >build/format 2>&1 || test -s build/format
+	@! grep -v '/crates/sbox/src/tables.rt is not in the layout$$' build/format
+
+demo: build/example
+	@build/example
+
+install: build/libpivsm.a
+	@install -d $(DESTDIR)$(PREFIX)/include $(DESTDIR)$(PREFIX)/lib/pkgconfig
+	@install -m 644 c/pivsm.h $(DESTDIR)$(PREFIX)/include
+	@install -m 644 build/libpivsm.a $(DESTDIR)$(PREFIX)/lib
+	@sed 's|@PREFIX@|$(PREFIX)|; s|@VERSION@|$(VERSION)|' c/pivsm.pc.in >$(DESTDIR)$(PREFIX)/lib/pkgconfig/pivsm.pc
+
+header: build/libpivsm.a
+	@c/header_test.sh build/libpivsm.a
+
+vectors: build/vectors
+	@build/vectors
+
+differential: build/differential
+	@build/differential $(CASES) $(SEED)
+
+sanitized: build/differential_sanitized
+	@build/differential_sanitized 3000 $(SEED)
+
+mutants: build/libpivsm.a
+	@c/differential/mutants.sh build/libpivsm.a 20000
+
+printed: $(PRINTED:%=build/%)
+	@for name in $(PRINTED); do \
+	    build/$$name >build/$$name.stdout && diff c/$${name%_calls}.stdout build/$$name.stdout || exit 1; done
+	@echo 'as stored: $(PRINTED)'
+
+compare: build/compare
+	@build/compare
 
 bench: build/bench build/bench_messages
 	@build/bench
 	@echo
 	@build/bench_messages
 
-compare: build/compare
-	@build/compare
+build/exchange: c/exchange.c
+	@$(C99) -o $@ $(filter-out %.h,$^) -lcrypto
 
-# The file that crates/exchange is held to is what the second program prints.
-exchange: build/exchange
-	@build/exchange | cmp - crates/exchange/stdout
+build/example: c/example.c c/card.c build/libpivsm.a
+	@$(C99) -o $@ $(filter-out %.h,$^)
 
-# tables.rt stands 16 to a row, as in the standard; the formatter would put each entry on its own line.
-format: build
-	@rt fmt --check >build/format 2>&1 || test -s build/format
-	@! grep -v '/crates/sbox/src/tables.rt is not in the layout$$' build/format
+build/exchange_calls: c/exchange_calls.c build/libpivsm.a
+	@$(C99) -o $@ $(filter-out %.h,$^)
 
-build/exchange: c/exchange.c packages build
-	@gcc -std=c99 $(CFLAGS) -o $@ $< -lcrypto
+build/boundary_cases: c/boundary_cases.c c/reference.c build/libpivsm.a
+	@$(C99) -o $@ $(filter-out %.h,$^) -lcrypto
 
-build/compare: c/compare.c c/plain_aes.c c/plain_aes.h c/primitives.h build/libprimitives.a
-	@gcc $(CFLAGS) -o $@ $(filter %.c %.a,$^) -lcrypto
+build/vectors: c/differential/vectors.c c/reference.c
+	@$(C99) -o $@ $(filter-out %.h,$^) -lcrypto
 
-build/bench: c/bench.c c/turns.c c/plain_aes.c c/turns.h c/plain_aes.h c/primitives.h build/libprimitives.a
-	@gcc $(CFLAGS) -o $@ $(filter %.c %.a,$^) -lcrypto
+build/differential: $(DIFFERENTIAL) build/libpivsm.a
+	@$(C99) -o $@ $(filter-out %.h,$^) -lcrypto
 
-build/bench_messages: c/bench_messages.c c/turns.c c/plain_aes.c c/ciphers.c c/plain_message.c c/turns.h \
-    c/plain_aes.h c/ciphers.h c/plain_message.h c/message_bench.h build/libbench_calls.a bench-packages
-	@gcc $(CFLAGS) -o $@ $(filter %.c %.a,$^) -lcrypto -lnettle -lgcrypt
+build/differential_sanitized: $(DIFFERENTIAL) build/libpivsm.a
+	@$(C99) $(SANITIZE) -o $@ $(filter-out %.h,$^) -lcrypto
 
-# rt check proves on all processors, rt staticlib on one; rt knows what is already proved, as after rt ci.
-build/lib%.a: packages build
-	@rt check $*
-	@rt staticlib $*
-	@cp target/staticlib/lib$*.a $@
+build/compare: c/compare.c c/plain_aes.c build/libprimitives.a
+	@gcc $(CFLAGS) -o $@ $(filter-out %.h,$^) -lcrypto
+
+build/bench: c/bench.c c/turns.c c/plain_aes.c build/libprimitives.a
+	@gcc $(CFLAGS) -o $@ $(filter-out %.h,$^) -lcrypto
+
+build/bench_messages: c/bench_messages.c c/turns.c c/plain_aes.c c/ciphers.c c/plain_message.c build/libpivsm.a | bench-packages
+	@gcc $(CFLAGS) -o $@ $(filter-out %.h,$^) -lcrypto -lnettle -lgcrypt
+
+$(PRINTED:%=build/%) $(addprefix build/,vectors differential differential_sanitized compare bench bench_messages): $(HEADERS) | packages build
+
+# rt check proves on all processors, rt staticlib on one; rt knows what is already proved, as after rt ci. Two rt at a
+# time would be in each other's way. Each crate's archive is one object, with its exported calls alone.
+build/libpivsm.a: $(CODE) | packages build
+	@rt check $(CALLS)
+	@for crate in $(CALLS); do rt staticlib $$crate >build/log 2>&1 || { cat build/log; exit 1; }; done
+	@cd build && for crate in $(CALLS); do ar x ../target/staticlib/lib$$crate.a || exit 1; done
+	@rm -f $@
+	@ar rcs $@ $(CALLS:%=build/%.o)
+
+build/libprimitives.a: $(CODE) | packages build
+	@rt check primitives
+	@rt staticlib primitives >build/log 2>&1 || { cat build/log; exit 1; }
+	@cp target/staticlib/libprimitives.a $@
 
 # Each installs what is missing.
 packages:
-	@$(call installed,stdio.h openssl/evp.h,gcc libc6-dev libssl-dev)
+	@$(call installed,stdio.h openssl/evp.h,g++ libc6-dev libssl-dev)
 
 bench-packages: packages
 	@$(call installed,nettle/aes.h gcrypt.h,nettle-dev libgcrypt20-dev)
 
-# Headers, and the packages that have them.
-installed = printf '\#include <%s>\n' $(1) | gcc -E - >/dev/null 2>&1 || \
+# Headers, and the packages that have them. g++ comes with gcc.
+installed = printf '\#include <%s>\n' $(1) | g++ -x c++ -E - >/dev/null 2>&1 || \
     { apt-get update && apt-get install -y --no-upgrade $(2); } || \
     { echo 'make: $(2): missing, and could not be installed: that takes root and a network' >&2; exit 1; }
 
 build:
 	@mkdir -p build
 
-.PHONY: test gate demo bench compare exchange format packages bench-packages
+.PHONY: test gate format demo install header vectors differential sanitized mutants printed compare bench packages bench-packages
 .NOTPARALLEL:

@@ -6,7 +6,7 @@
  * must give the same results.
  */
 #include "ciphers.h"
-#include "message_bench.h"
+#include "pivsm.h"
 #include "plain_message.h"
 #include "turns.h"
 
@@ -80,28 +80,53 @@ static void make_inputs(void)
     }
 }
 
-/* ---- the jobs. The archive's calls leave `next` as it is. */
+/* ---- the jobs: the length of what was made, 0 if refused, and the direction's next chaining value. The archive
+ * writes the next session in the place of the one that it was lent, so each call gets a copy. */
+
+#define COMMAND_MCV 106
+#define RESPONSE_MCV 122
+
+static uint32_t proved_wrap(int wide, uint8_t *field, size_t field_size, uint8_t next[16])
+{
+    uint8_t session[PIVSM_SESSION_SIZE];
+    size_t session_len = sizeof session, len;
+
+    memcpy(session, inputs[wide].ready, sizeof session);
+    if (pivsm_wrap_command(session, sizeof session, &session_len, 0xcb, 0x3f, 0xff, true, tag_list, sizeof tag_list,
+                           field, field_size, &len) != PIVSM_OK)
+        return 0;
+    memcpy(next, session + COMMAND_MCV, 16);
+    return (uint32_t)len;
+}
+
+static uint32_t proved_unwrap(int wide, const uint8_t *field, uint8_t *data, size_t data_size, uint8_t next[16])
+{
+    uint8_t session[PIVSM_SESSION_SIZE];
+    size_t session_len = sizeof session, len;
+    uint16_t sw;
+
+    memcpy(session, inputs[wide].waiting, sizeof session);
+    if (pivsm_unwrap_response(session, sizeof session, &session_len, 0x9000, field, LONGEST_RESPONSE_FIELD, data,
+                              data_size, &len, &sw) != PIVSM_OK)
+        return 0;
+    memcpy(next, session + RESPONSE_MCV, 16);
+    return (uint32_t)len;
+}
 
 static uint32_t wrap(int who, int wide, uint8_t *field, size_t field_size, uint8_t next[16])
 {
-    const uint8_t *session = inputs[wide].ready;
-
     if (who == PROVED)
-        return pivsm_bench_wrap_command(session, SAVED_SESSION, 0xcb, 0x3f, 0xff, true, tag_list, sizeof tag_list,
-                                        field, field_size);
-    return plain_wrap_command(implementations[who].cipher, session, SAVED_SESSION, 0xcb, 0x3f, 0xff, true, tag_list,
-                              sizeof tag_list, field, field_size, next);
+        return proved_wrap(wide, field, field_size, next);
+    return plain_wrap_command(implementations[who].cipher, inputs[wide].ready, SAVED_SESSION, 0xcb, 0x3f, 0xff, true,
+                              tag_list, sizeof tag_list, field, field_size, next);
 }
 
 static uint32_t unwrap(int who, int wide, const uint8_t *field, uint8_t *data, size_t data_size, uint8_t next[16])
 {
-    const uint8_t *session = inputs[wide].waiting;
-
     if (who == PROVED)
-        return pivsm_bench_unwrap_response(session, SAVED_SESSION, field, LONGEST_RESPONSE_FIELD, 0x90, 0x00, data,
-                                           data_size);
-    return plain_unwrap_response(implementations[who].cipher, session, SAVED_SESSION, field, LONGEST_RESPONSE_FIELD,
-                                 0x90, 0x00, data, data_size, next);
+        return proved_unwrap(wide, field, data, data_size, next);
+    return plain_unwrap_response(implementations[who].cipher, inputs[wide].waiting, SAVED_SESSION, field,
+                                 LONGEST_RESPONSE_FIELD, 0x90, 0x00, data, data_size, next);
 }
 
 static void run(struct request r)
@@ -130,10 +155,9 @@ static void blank(struct result *result)
 
 static void compare_one(int who, int wide, const struct result *mine, const struct result *right, const char *job)
 {
-    bool same = mine->len == right->len && memcmp(mine->out, right->out, ROOM) == 0;
+    bool same = mine->len == right->len && memcmp(mine->out, right->out, ROOM) == 0 &&
+                memcmp(mine->next, right->next, 16) == 0;
 
-    if (who != PROVED)
-        same = same && memcmp(mine->next, right->next, 16) == 0;
     if (!same)
         fprintf(stderr, "bench: %s, CS%d, %s: differs\n", implementations[who].name, wide ? 7 : 2, job);
     must(same, "the comparison");

@@ -4,7 +4,7 @@
  * first with suite CS2 and then with CS7.  AES and CMAC are OpenSSL's.
  *
  * This program shares no code with the library; its output is what
- * crates/exchange must print.
+ * exchange_calls.c, which goes through the library, must print.
  *
  * Section numbers in the comments are those of SP 800-73-4 Part 2.
  */

@@ -12,14 +12,18 @@
  *                        field, sizeof field, &field_len);
  *     ... pivsm_fragment_command makes the APDUs of field; send them; pivsm_reassemble_response puts the
  *         response together; see example.c ...
- *     if (pivsm_unwrap_response(session, sizeof session, &session_len, response, response_len, status,
- *                               data, sizeof data, &data_len, &sw) == PIVSM_OK)
- *         ... data and sw are what the card wrapped, in answer to this command: the read is billable ...
+ *     if (pivsm_unwrap_response(session, sizeof session, &session_len, status, response, response_len,
+ *                               data, sizeof data, &data_len, &sw) == PIVSM_OK && sw == 0x9000)
+ *         ... data is what the card wrapped, in answer to this command: a verified read ...
  *     pivsm_close(session, sizeof session, &session_len);
  *
  * SESSION. A session is a string of bytes that the caller keeps (PIVSM_SESSION_SIZE has room for it) and lends
  * to each call together with its length. A call reads it and writes the next session in its place; nothing is
  * kept elsewhere, there is no global state and nothing is allocated. So:
+ *   - session_size is the room for the bytes, session_len their length. Today every session has PIVSM_SESSION_SIZE
+ *     bytes. Another session_len cannot be read, nor one over session_size, nor bytes that are not a session's: each
+ *     is PIVSM_BAD_SESSION, before all else. Room and length are parameters because a session may grow in a later
+ *     version: pass on the length that the last call left, too.
  *   - Pass on the bytes that the last call left, and no earlier ones. An earlier session accepts an old response
  *     again, and encrypts another text with the same counter.
  *   - The bytes are the session keys. Protect them as such; they are neither encrypted nor authenticated. Copies
@@ -30,9 +34,9 @@
  * BUFFERS. A buffer is a pointer and a length in bytes: x_len says how many bytes there are to read, x_size how
  * many may be written. (NULL, 0) is an empty buffer. No two buffers or numbers that are lent to one call may
  * overlap if the call writes one of them. A pointer to a number must not be NULL; the number is written at every
- * result, unless the call says otherwise. A call writes to a buffer on PIVSM_OK only, and then only as many bytes
- * as the length that it gives: the bytes behind those are the caller's old ones. (The session alone is also
- * written on PIVSM_BAD_MAC and PIVSM_BAD_PADDING, which close it.)
+ * result, unless the call says otherwise. A bool must be true or false before a call, too. A call writes to a
+ * buffer on PIVSM_OK only, and then only as many bytes as the length that it gives: the bytes behind those are the
+ * caller's old ones. (The session alone is also written on PIVSM_BAD_MAC and PIVSM_BAD_PADDING, which close it.)
  *
  * RESULTS. Each call returns PIVSM_OK or the first refusal that applies, in the order in which the call lists
  * them. At a refusal the lengths and other numbers that a call gives are 0, but for the size that is needed, at
@@ -53,7 +57,7 @@
 extern "C" {
 #endif
 
-/* Room for a session's bytes. */
+/* Room for a session's bytes; today also the length of every session. */
 #define PIVSM_SESSION_SIZE 138
 
 /* The longest data of a command and of a response. */
@@ -136,7 +140,7 @@ uint32_t pivsm_open_card(uint32_t suite, const uint8_t *sk_enc, size_t sk_enc_le
  *   session_len  in, out  the length of its bytes; stays as it was at a refusal
  *
  * Returns the first that applies:
- *   PIVSM_BAD_SESSION  session cannot be read (session_len > session_size included)
+ *   PIVSM_BAD_SESSION  session cannot be read
  *   PIVSM_OK           the session is closed
  */
 uint32_t pivsm_close(uint8_t *session, size_t session_size, size_t *session_len);
@@ -187,8 +191,10 @@ uint32_t pivsm_wrap_command(uint8_t *session, size_t session_size, size_t *sessi
  *   PIVSM_NOT_PERMITTED          ins is not one that the host may wrap
  *   PIVSM_TOO_LONG               field_len > PIVSM_COMMAND_FIELD_MAX
  *   PIVSM_COMMAND_LIMIT_REACHED  PIVSM_COMMAND_LIMIT commands have been accepted
- *   PIVSM_MALFORMED              a data object breaks its form, read from left to right
- *   PIVSM_MISSING_OBJECT         none does, but one that is required is not there
+ *   PIVSM_MALFORMED              a data object breaks its form or its place, read from left to right; '97' in VERIFY
+ *                                or CHANGE REFERENCE DATA does
+ *   PIVSM_MISSING_OBJECT         none does, but one is not there: '8E'; '97' in GET DATA; '87' in a command other than
+ *                                VERIFY. So an empty field is this
  *   PIVSM_BUFFER_TOO_SMALL
  *   PIVSM_BAD_MAC                the session is closed
  *   PIVSM_BAD_PADDING            the session is closed
@@ -231,8 +237,8 @@ uint32_t pivsm_wrap_response(uint8_t *session, size_t session_size, size_t *sess
  *   session        in, out  the host's session
  *   session_size            the room for its bytes
  *   session_len    in, out  the length of its bytes; stays as it was at a refusal
- *   field          in       the data field of the response, reassembled, without SW1 SW2
- *   sw             in       the status word that came with it, SW1 * 256 + SW2
+ *   sw             in       the status word that came with the response, SW1 * 256 + SW2
+ *   field          in       its data field, reassembled, without SW1 SW2
  *   data           out      the response's data; there must be room for its ciphertext, which is up to 16 bytes
  *                           longer
  *   data_len       out      OK: bytes written; BUFFER_TOO_SMALL: the size needed; else 0
@@ -245,12 +251,13 @@ uint32_t pivsm_wrap_response(uint8_t *session, size_t session_size, size_t *sess
  *   PIVSM_OUT_OF_TURN       a card's session, or no command waits for its response
  *   PIVSM_UNPROTECTED       field_len is 0: the card answered without secure messaging
  *   PIVSM_TOO_LONG          field_len > PIVSM_RESPONSE_FIELD_MAX
- *   PIVSM_MALFORMED         a data object breaks its form, read from left to right
+ *   PIVSM_MALFORMED         a data object breaks its form or its place, read from left to right; a '99' that differs
+ *                           from sw does
  *   PIVSM_MISSING_OBJECT    none does, but '99' or '8E' is not there
  *   PIVSM_BUFFER_TOO_SMALL
  *   PIVSM_BAD_MAC           the session is closed
  *   PIVSM_BAD_PADDING       the session is closed
- *   PIVSM_OK                the read is verified; the host is ready for its next command
+ *   PIVSM_OK                data and status word are the card's; the host is ready for its next command
  *
  * data is written on PIVSM_OK only, its first *data_len bytes only. session changes on PIVSM_OK, PIVSM_BAD_MAC and
  * PIVSM_BAD_PADDING only; at every other refusal the host still waits for the response.
@@ -260,7 +267,8 @@ uint32_t pivsm_unwrap_response(uint8_t *session, size_t session_size, size_t *se
                                size_t *data_len, uint16_t *authentic_sw);
 
 /* Make one APDU of a command's field (command chaining). Fragments are numbered from 0; ask for them until
- * PIVSM_BROKEN_CHAIN says that there is none with this number. A field of n bytes has n / size of them, rounded up.
+ * PIVSM_BROKEN_CHAIN says that there is none with this number. A field of n bytes has n / size of them, rounded up,
+ * where a size of 0 counts as 255.
  *
  *   ins, p1, p2  in   the command's header
  *   field        in   its data field under secure messaging

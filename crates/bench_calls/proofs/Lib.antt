@@ -1,3 +1,0 @@
-pub mod ShortText
-pub mod ShortAnswers
-pub mod Given
