@@ -1,8 +1,8 @@
 -- `lc` meets its contract: what a slice of bytes holds is a byte.
 -- Assumes nothing.
 use borrow.Author.Needs.{needs}
-use Rattle.reassemble_command.proofs.lc.Statement.{statement}
-use Rattle.reassemble_command.proofs.lc.Tie as tie
+use Rattle.command_apdu.proofs.lc.Statement.{statement}
+use Rattle.command_apdu.proofs.lc.Tie as tie
 use mathlib.Core.Path.{refl}
 use native.Mathlib.Omega.{arith}
 

@@ -1,14 +1,14 @@
 -- `well_formed` meets its contract: Lc, then one shape or the other.
 -- Assumes nothing.
 use borrow.Author.Needs.{needs}
-use Rattle.reassemble_command.proofs.well_formed.Statement.{statement}
-use Rattle.reassemble_command.proofs.well_formed.Tie as tie
+use Rattle.command_apdu.proofs.well_formed.Statement.{statement}
+use Rattle.command_apdu.proofs.well_formed.Tie as tie
 use mathlib.Core.Path.{sym}
 use native.Mathlib.Omega.{arith}
 use borrow.Author.Tests.{le-leb, lt-leb}
 use Rattle.octets.proofs.Tests.{outcome}
 use Rattle.command_chaining.specs.Apdu.{isChained, wellFormed}
-use Rattle.reassemble_command.proofs.CommandTests.{short-malformed}
+use Rattle.command_apdu.proofs.Shapes.{short-malformed}
 
 returns : tie.Need-returns
 returns c = sym (short-malformed (c .before .before .args .apdu .now) (c .if1 .taken))

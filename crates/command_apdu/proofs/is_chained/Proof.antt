@@ -1,8 +1,8 @@
 -- `is_chained` meets its contract: CLA, then the length.
 -- Assumes nothing.
 use borrow.Author.Needs.{needs}
-use Rattle.reassemble_command.proofs.is_chained.Statement.{statement}
-use Rattle.reassemble_command.proofs.is_chained.Tie as tie
+use Rattle.command_apdu.proofs.is_chained.Statement.{statement}
+use Rattle.command_apdu.proofs.is_chained.Tie as tie
 use borrow.Author.Tests.{eq-eqb, ne-eqb}
 use lib.ListN.{getD}
 use Rattle.command_chaining.specs.Apdu.{isChained}

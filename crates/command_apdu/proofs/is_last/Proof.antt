@@ -1,8 +1,8 @@
 -- `is_last` meets its contract: CLA, then the length, then the final '00'.
 -- Assumes nothing.
 use borrow.Author.Needs.{needs}
-use Rattle.reassemble_command.proofs.is_last.Statement.{statement}
-use Rattle.reassemble_command.proofs.is_last.Tie as tie
+use Rattle.command_apdu.proofs.is_last.Statement.{statement}
+use Rattle.command_apdu.proofs.is_last.Tie as tie
 use borrow.Author.Tests.{eq-eqb, ne-eqb}
 use Prim.Native.Nat.{_+_}
 use lib.ListN.{length, getD}

@@ -1,7 +1,7 @@
 -- `continues` meets its contract: one case for each test.
 -- Assumes nothing.
-use Rattle.reassemble_command.proofs.continues.Statement.{statement}
-use Rattle.reassemble_command.proofs.continues.Tie as tie
+use Rattle.command_fragment_checks.proofs.continues.Statement.{statement}
+use Rattle.command_fragment_checks.proofs.continues.Tie as tie
 use borrow.Author.Tests.{eq-eqb, ne-eqb}
 use Rattle.command_chaining.specs.Reassembly.{continues}
 

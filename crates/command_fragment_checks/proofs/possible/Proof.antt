@@ -1,7 +1,7 @@
 -- `possible` meets its contract: one case for each test.
 -- Assumes nothing.
-use Rattle.reassemble_command.proofs.possible.Statement.{statement}
-use Rattle.reassemble_command.proofs.possible.Tie as tie
+use Rattle.command_fragment_checks.proofs.possible.Statement.{statement}
+use Rattle.command_fragment_checks.proofs.possible.Tie as tie
 use borrow.Author.Tests.{eq-eqb, ne-eqb}
 use Rattle.command_chaining.specs.Reassembly.{possible}
 

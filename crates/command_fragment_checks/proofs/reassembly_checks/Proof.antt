@@ -1,14 +1,15 @@
 -- `reassembly_checks` meets its contract: one test after the other.
 -- Assumes nothing.
 use borrow.Author.Needs.{needs}
-use Rattle.reassemble_command.proofs.reassembly_checks.Statement.{statement}
-use Rattle.reassemble_command.proofs.reassembly_checks.Tie as tie
+use Rattle.command_fragment_checks.proofs.reassembly_checks.Statement.{statement}
+use Rattle.command_fragment_checks.proofs.reassembly_checks.Tie as tie
 use mathlib.Core.Path.{ap}
 use Prim.Native.Nat.{ℕ, _+_}
 use native.Mathlib.Omega.{arith}
 use borrow.Author.Tests.{not-true, not-false}
 use Rattle.octets.proofs.Tests.{outcome}
-use Rattle.reassemble_command.proofs.CommandTests.{holds-data, possible-short, malformed, impossible, broken, too-long, no-room, passed}
+use Rattle.command_apdu.proofs.Shapes.{holds-data}
+use Rattle.command_fragment_checks.proofs.CommandTests.{possible-short, malformed, impossible, broken, too-long, no-room, passed}
 
 returns : tie.Need-returns
 returns c = let a = c .before .before .before .args in malformed (a .chain) (a .apdu .now) (a .room) (outcome _ (c .before .well-formed .ensures) (not-true _ (c .if1 .taken)))
