@@ -1,7 +1,7 @@
 -- `possible` meets its contract: its limit.
 -- Assumes nothing.
-use Rattle.reassemble_response.proofs.possible.Statement.{statement}
-use Rattle.reassemble_response.proofs.possible.Tie as tie
+use Rattle.response_fragment_checks.proofs.possible.Statement.{statement}
+use Rattle.response_fragment_checks.proofs.possible.Tie as tie
 use mathlib.Core.Path.{refl}
 use Rattle.response_chaining.specs.Reassembly.{possible}
 

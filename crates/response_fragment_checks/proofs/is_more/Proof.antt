@@ -1,8 +1,8 @@
 -- `is_more` meets its contract: SW1 stands behind the data.
 -- Assumes nothing.
 use borrow.Author.Needs.{needs}
-use Rattle.reassemble_response.proofs.is_more.Statement.{statement}
-use Rattle.reassemble_response.proofs.is_more.Tie as tie
+use Rattle.response_fragment_checks.proofs.is_more.Statement.{statement}
+use Rattle.response_fragment_checks.proofs.is_more.Tie as tie
 use mathlib.Core.Path.{refl}
 use Rattle.response_chaining.specs.Reassembly.{isMore}
 

@@ -1,12 +1,12 @@
 -- `reassembly_checks` meets its contract: one test after the other.
 -- Assumes nothing.
 use borrow.Author.Needs.{needs}
-use Rattle.reassemble_response.proofs.reassembly_checks.Statement.{statement}
-use Rattle.reassemble_response.proofs.reassembly_checks.Tie as tie
+use Rattle.response_fragment_checks.proofs.reassembly_checks.Statement.{statement}
+use Rattle.response_fragment_checks.proofs.reassembly_checks.Tie as tie
 use native.Mathlib.Omega.{arith}
 use borrow.Author.Tests.{not-true, not-false}
 use Rattle.octets.proofs.Tests.{outcome}
-use Rattle.reassemble_response.proofs.ResponseTests.{has-status, short-data, possible-short, malformed, impossible, too-long, no-room, passed}
+use Rattle.response_fragment_checks.proofs.ResponseTests.{has-status, short-data, possible-short, malformed, impossible, too-long, no-room, passed}
 
 returns : tie.Need-returns
 returns c = let a = c .before .before .before .args in malformed (a .chain) (a .bytes .now) (a .room) (outcome _ (c .before .well-formed .ensures) (not-true _ (c .if1 .taken)))

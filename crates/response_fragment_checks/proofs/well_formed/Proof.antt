@@ -1,8 +1,8 @@
 -- `well_formed` meets its contract: a whole status word, then data where more follow, then its length.
 -- Assumes nothing.
 use borrow.Author.Needs.{needs}
-use Rattle.reassemble_response.proofs.well_formed.Statement.{statement}
-use Rattle.reassemble_response.proofs.well_formed.Tie as tie
+use Rattle.response_fragment_checks.proofs.well_formed.Statement.{statement}
+use Rattle.response_fragment_checks.proofs.well_formed.Tie as tie
 use native.Mathlib.Omega.{arith}
 use borrow.Author.Tests.{not-true, not-false, le-leb, lt-leb}
 use lib.ListN.{length}

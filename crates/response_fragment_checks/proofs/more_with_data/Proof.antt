@@ -1,8 +1,8 @@
 -- `more_with_data` meets its contract: more fragments follow, or not.
 -- Assumes nothing.
 use borrow.Author.Needs.{needs}
-use Rattle.reassemble_response.proofs.more_with_data.Statement.{statement}
-use Rattle.reassemble_response.proofs.more_with_data.Tie as tie
+use Rattle.response_fragment_checks.proofs.more_with_data.Statement.{statement}
+use Rattle.response_fragment_checks.proofs.more_with_data.Tie as tie
 use Rattle.octets.proofs.Tests.{outcome}
 
 returns : tie.Need-returns
