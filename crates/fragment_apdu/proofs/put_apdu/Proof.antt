@@ -1,12 +1,12 @@
 -- `put_apdu` meets its contract: with a final 00, or without.
 -- Assumes nothing.
 use borrow.Author.Needs.{needs}
-use Rattle.fragment_command.proofs.put_apdu.Statement.{statement}
-use Rattle.fragment_command.proofs.put_apdu.Tie as tie
+use Rattle.fragment_apdu.proofs.put_apdu.Statement.{statement}
+use Rattle.fragment_apdu.proofs.put_apdu.Tie as tie
 use native.Mathlib.Omega.{arith}
 use Rattle.octets.proofs.Writing.{wrote-then, wrote-length}
 use Rattle.command_chaining.specs.Apdu.{header}
-use Rattle.fragment_command.proofs.Apdus.{apdu-last, apdu-chained, length-apdu-last, length-apdu-chained}
+use Rattle.fragment_apdu.proofs.Apdus.{apdu-last, apdu-chained, length-apdu-last, length-apdu-chained}
 
 put-command-requires : tie.Need-put-command-requires
 put-command-requires c κs =

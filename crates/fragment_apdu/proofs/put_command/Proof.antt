@@ -1,8 +1,8 @@
 -- `put_command` meets its contract: five bytes, then the data.
 -- Assumes nothing.
 use borrow.Author.Needs.{needs}
-use Rattle.fragment_command.proofs.put_command.Statement.{statement}
-use Rattle.fragment_command.proofs.put_command.Tie as tie
+use Rattle.fragment_apdu.proofs.put_command.Statement.{statement}
+use Rattle.fragment_apdu.proofs.put_command.Tie as tie
 use native.Mathlib.Omega.{arith}
 use Rattle.octets.proofs.Writing.{wrote-then}
 

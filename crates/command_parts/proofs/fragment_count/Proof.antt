@@ -1,8 +1,8 @@
 -- `fragment_count` meets its contract: a fragment has 1 to 255 bytes.
 -- Assumes nothing.
 use borrow.Author.Needs.{needs}
-use Rattle.fragment_command.proofs.fragment_count.Statement.{statement}
-use Rattle.fragment_command.proofs.fragment_count.Tie as tie
+use Rattle.command_parts.proofs.fragment_count.Statement.{statement}
+use Rattle.command_parts.proofs.fragment_count.Tie as tie
 use native.Mathlib.Omega.{arith}
 use Rattle.command_chaining.specs.Fragment.{fragmentCount}
 use Rattle.command_chaining.proofs.Sizes.{sized}

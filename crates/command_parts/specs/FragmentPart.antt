@@ -5,7 +5,7 @@ use lib.ListN.{length}
 use Rattle.octets.specs.Bytes.{Bytes}
 use Rattle.parts.specs.Parts.{partEnd}
 use Rattle.command_chaining.specs.Fragment.{fragmentSize, fragmentCount}
-use Rattle.fragment_command.specs.declared.Part.{Part}
+use Rattle.command_parts.specs.declared.Part.{Part}
 
 abbrev pub fragmentPart : Bytes → ℕ → ℕ → Part
 fragmentPart field p k =

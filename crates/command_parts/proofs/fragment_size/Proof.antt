@@ -1,7 +1,7 @@
 -- `fragment_size` meets its contract.
 -- Assumes nothing.
-use Rattle.fragment_command.proofs.fragment_size.Statement.{statement}
-use Rattle.fragment_command.proofs.fragment_size.Tie as tie
+use Rattle.command_parts.proofs.fragment_size.Statement.{statement}
+use Rattle.command_parts.proofs.fragment_size.Tie as tie
 use borrow.Author.Tests.{eq-eqb, ne-eqb}
 use Rattle.command_chaining.specs.Fragment.{fragmentSize}
 

@@ -12,9 +12,9 @@ use Rattle.command_chaining.specs.Fragment.{fragmentSize, fragmentCount, fragme
 use Rattle.parts.proofs.Ceiling.{starts-within}
 use Rattle.parts.proofs.PartEnds.{ends-within, part-bytes}
 use Rattle.command_chaining.proofs.Sizes.{sized}
-use Rattle.fragment_command.specs.FragmentPart.{fragmentPart}
-use Rattle.fragment_command.specs.declared.Part.{Part}
-use Rattle.fragment_command.proofs.Apdus.{length-apdu-last, length-apdu-chained}
+use Rattle.command_parts.specs.FragmentPart.{fragmentPart}
+use Rattle.command_parts.specs.declared.Part.{Part}
+use Rattle.fragment_apdu.proofs.Apdus.{length-apdu-last, length-apdu-chained}
 
 -- ---- where fragment k starts
 

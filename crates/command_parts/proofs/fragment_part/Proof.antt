@@ -1,11 +1,11 @@
 -- `fragment_part` meets its contract: the fragment starts within the field, so the product is small.
 -- Assumes nothing.
 use borrow.Author.Needs.{needs}
-use Rattle.fragment_command.proofs.fragment_part.Statement.{statement}
-use Rattle.fragment_command.proofs.fragment_part.Tie as tie
+use Rattle.command_parts.proofs.fragment_part.Statement.{statement}
+use Rattle.command_parts.proofs.fragment_part.Tie as tie
 use native.Mathlib.Numerals.{add-one}
 use native.Mathlib.Omega.{arith}
-use Rattle.fragment_command.proofs.Parts.{starts-in, number-in}
+use Rattle.command_parts.proofs.Parts.{starts-in, number-in}
 
 mul-start : tie.Need-mul-start
 mul-start c =

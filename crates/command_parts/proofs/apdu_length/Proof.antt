@@ -1,10 +1,10 @@
 -- `apdu_length` meets its contract: five bytes and the data; one more in the last.
 -- Assumes nothing.
 use borrow.Author.Needs.{needs}
-use Rattle.fragment_command.proofs.apdu_length.Statement.{statement}
-use Rattle.fragment_command.proofs.apdu_length.Tie as tie
+use Rattle.command_parts.proofs.apdu_length.Statement.{statement}
+use Rattle.command_parts.proofs.apdu_length.Tie as tie
 use native.Mathlib.Omega.{arith}
-use Rattle.fragment_command.proofs.Parts.{part-order, short-part, length-last, length-chained}
+use Rattle.command_parts.proofs.Parts.{part-order, short-part, length-last, length-chained}
 
 sub-lc : tie.Need-sub-lc
 sub-lc c = let a = c .before .before .before .args in omega (arith, part-order (a .field .now) (a .size) (a .number) _ (c .before .fragment-part .ensures))
