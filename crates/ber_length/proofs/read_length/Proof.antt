@@ -6,11 +6,11 @@ use Prim.Native.Nat.{ℕ, _+_, _*_, _≤_}
 use native.Mathlib.Omega.{arith}
 use borrow.Author.Tests.{eq-eqb, ne-eqb, lt-ltb, le-ltb}
 use lib.ListN.{length}
 use Rattle.tlv.specs.Length.{readLength}
 use Rattle.tlv.specs.declared.LengthRead.the-variants.{Length}
 use Rattle.tlv.proofs.LengthForms.{read-one, read-two, read-three}
-use Rattle.tlv.proofs.read_length.Statement.{statement}
-use Rattle.tlv.proofs.read_length.Tie as tie
+use Rattle.ber_length.proofs.read_length.Statement.{statement}
+use Rattle.ber_length.proofs.read_length.Tie as tie
 
 returns : tie.Need-returns
 unfolding readLength
