@@ -1,8 +1,8 @@
 -- `next` meets its contract: the part of the field from there on, of the size that Le asks for.
 -- Assumes nothing.
 use borrow.Author.Needs.{needs}
-use Rattle.fragment_response.proofs.next.Statement.{statement}
-use Rattle.fragment_response.proofs.next.Tie as tie
+use Rattle.response_parts.proofs.next.Statement.{statement}
+use Rattle.response_parts.proofs.next.Tie as tie
 use Rattle.response_chaining.specs.Fragment.{fragmentData, next}
 
 returns : tie.Need-returns

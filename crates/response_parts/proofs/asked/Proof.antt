@@ -1,7 +1,7 @@
 -- `asked` meets its contract.
 -- Assumes nothing.
-use Rattle.fragment_response.proofs.asked.Statement.{statement}
-use Rattle.fragment_response.proofs.asked.Tie as tie
+use Rattle.response_parts.proofs.asked.Statement.{statement}
+use Rattle.response_parts.proofs.asked.Tie as tie
 use borrow.Author.Tests.{eq-eqb, ne-eqb}
 use Rattle.response_chaining.specs.Fragment.{asked}
 

@@ -1,11 +1,11 @@
 -- `put_status` meets its contract: the status word itself, or how many bytes are left.
 -- Assumes nothing.
 use borrow.Author.Needs.{needs}
-use Rattle.fragment_response.proofs.put_status.Statement.{statement}
-use Rattle.fragment_response.proofs.put_status.Tie as tie
+use Rattle.response_parts.proofs.put_status.Statement.{statement}
+use Rattle.response_parts.proofs.put_status.Tie as tie
 use mathlib.Core.Path.{sym}
 use Rattle.protocol.specs.Message.{status}
-use Rattle.fragment_response.proofs.Parts.{status-last, status-more}
+use Rattle.response_parts.proofs.Parts.{status-last, status-more}
 
 returns : tie.Need-returns
 returns c =

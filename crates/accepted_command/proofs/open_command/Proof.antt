@@ -1,8 +1,8 @@
 -- `open_command` meets its contract: room, MAC and text, then what the command gives.
 -- Assumes nothing.
 use borrow.Author.Needs.{needs}
-use Rattle.unwrap_command.proofs.open_command.Statement.{statement}
-use Rattle.unwrap_command.proofs.open_command.Tie as tie
+use Rattle.accepted_command.proofs.open_command.Statement.{statement}
+use Rattle.accepted_command.proofs.open_command.Tie as tie
 use mathlib.Core.Path.{_≡_, refl, sym, ap, _∙_}
 use native.Mathlib.Omega.{arith}
 use lib.ListN.{length}
@@ -11,13 +11,12 @@ use Rattle.field_laws.proofs.AcceptedRules.{conforms}
 use Rattle.transitions.specs.Transitions.{commandTaken}
 use Rattle.ciphers.specs.Aes.{aesCiphers}
 use Rattle.protocol.specs.Permission.{commandWanted}
-use Rattle.protocol.specs.Command.{commandInput, commandMac, commandAccepted}
+use Rattle.protocol.specs.Command.{CommandGiven, commandInput, commandMac, commandAccepted}
 use Rattle.results.specs.Results.{commandResult}
 use Rattle.results.specs.declared.CommandAnswer.the-variants.{Accepted}
 use Rattle.verified_text.proofs.Stages.{stand-in}
 use Rattle.verified_text.proofs.Opened.{opens-refused, opens-data}
-use Rattle.unwrap_command.specs.UnwrapCommand.{payloadOf}
-use Rattle.unwrap_command.proofs.Stages.{text-first}
+use Rattle.accepted_command.proofs.TextFirst.{text-first}
 
 slice-aggregate-command-mac : tie.Need-slice-aggregate-command-mac
 slice-aggregate-command-mac c =
@@ -37,7 +36,7 @@ returns c =
     let v = c .before .before .before .before .before .before .verified-text .ensures in
     let mac = c .before .before .before .before .before .before .before .before .before .before .command-mac .ensures in
     rw (text-first (a .session) (a .ins) (a .p1) (a .p2) (a .field .now) (length (a .out .now)) (a .objects) _ _ (c .before .before .before .before .before .before .before .before .command-counter .ensures) mac)
-    (opens-data (a .session) commandResult payloadOf (commandAccepted aesCiphers (a .session) (a .ins) (a .p1) (a .p2) (a .field .now) (a .objects)) (a .out .now) _ _ _ _ (sym (v .0) ∙ c .before .before .text .given .1) (v .1) (λ d. refl)
+    (opens-data (a .session) commandResult (λ (g : CommandGiven). g .payload) (commandAccepted aesCiphers (a .session) (a .ins) (a .p1) (a .p2) (a .field .now) (a .objects)) (a .out .now) _ _ _ _ (sym (v .0) ∙ c .before .before .text .given .1) (v .1) (λ d. refl)
     (λ d l i. record { answer = Accepted (l i) (a .objects .second); session = (c .command-taken .ensures ∙ ap (commandTaken (a .session)) mac) i }))
 
 returns-2 : tie.Need-returns-2
@@ -46,7 +45,7 @@ returns-2 c =
     let a = c .before .before .before .before .before .before .before .before .before .before .before .before .before .before .before .before .before .args in
     let v = c .before .before .before .before .before .before .verified-text .ensures in
     rw (text-first (a .session) (a .ins) (a .p1) (a .p2) (a .field .now) (length (a .out .now)) (a .objects) _ _ (c .before .before .before .before .before .before .before .before .command-counter .ensures) (c .before .before .before .before .before .before .before .before .before .before .command-mac .ensures))
-    (opens-refused (a .session) commandResult payloadOf (commandAccepted aesCiphers (a .session) (a .ins) (a .p1) (a .p2) (a .field .now) (a .objects)) (a .out .now) _ _ _ _ (sym (v .0) ∙ c .before .before .text2 .given .1) (v .1) (c .refused-command .ensures))
+    (opens-refused (a .session) commandResult (λ (g : CommandGiven). g .payload) (commandAccepted aesCiphers (a .session) (a .ins) (a .p1) (a .p2) (a .field .now) (a .objects)) (a .out .now) _ _ _ _ (sym (v .0) ∙ c .before .before .text2 .given .1) (v .1) (c .refused-command .ensures))
 
 pub open-command-spec : {M : Type 1} → statement M
 open-command-spec =

@@ -1,8 +1,8 @@
 -- `announced` meets its contract.
 -- Assumes nothing.
 use borrow.Author.Needs.{needs}
-use Rattle.fragment_response.proofs.announced.Statement.{statement}
-use Rattle.fragment_response.proofs.announced.Tie as tie
+use Rattle.response_parts.proofs.announced.Statement.{statement}
+use Rattle.response_parts.proofs.announced.Tie as tie
 use native.Mathlib.Omega.{arith}
 use borrow.Author.Tests.{le-leb, lt-leb}
 use Rattle.response_chaining.specs.Fragment.{announced}
