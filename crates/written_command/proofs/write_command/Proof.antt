@@ -1,8 +1,8 @@
 -- `write_command` meets its contract: objects, their MAC, and the MAC's object behind them.
 -- Assumes nothing.
 use borrow.Author.Needs.{needs}
-use Rattle.wrap_command.proofs.write_command.Statement.{statement}
-use Rattle.wrap_command.proofs.write_command.Tie as tie
+use Rattle.written_command.proofs.write_command.Statement.{statement}
+use Rattle.written_command.proofs.write_command.Tie as tie
 use mathlib.Core.Path.{sym, ap, _∙_}
 use native.Mathlib.Nat.{zero-add}
 use native.Mathlib.Omega.{arith}

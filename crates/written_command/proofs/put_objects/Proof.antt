@@ -1,8 +1,8 @@
 -- `put_objects` meets its contract: the encrypted data fits the crate's memory, and its objects the caller's buffer.
 -- Assumes nothing.
 use borrow.Author.Needs.{needs}
-use Rattle.wrap_command.proofs.put_objects.Statement.{statement}
-use Rattle.wrap_command.proofs.put_objects.Tie as tie
+use Rattle.written_command.proofs.put_objects.Statement.{statement}
+use Rattle.written_command.proofs.put_objects.Tie as tie
 use mathlib.Core.Path.{_≡_, sym, ap, _∙_}
 use native.Mathlib.Nat.{zero-add}
 use native.Mathlib.Omega.{arith}

@@ -1,8 +1,8 @@
 -- `write_response` meets its contract: objects, their MAC, and the MAC's object behind them.
 -- Assumes nothing.
 use borrow.Author.Needs.{needs}
-use Rattle.wrap_response.proofs.write_response.Statement.{statement}
-use Rattle.wrap_response.proofs.write_response.Tie as tie
+use Rattle.written_response.proofs.write_response.Statement.{statement}
+use Rattle.written_response.proofs.write_response.Tie as tie
 use mathlib.Core.Path.{sym, ap, _∙_}
 use native.Mathlib.Nat.{zero-add}
 use native.Mathlib.Omega.{arith}
