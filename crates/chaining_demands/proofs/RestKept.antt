@@ -24,7 +24,7 @@ use Rattle.command_chaining.specs.declared.Reassembly.{Reassembly}
 use Rattle.command_chaining.specs.declared.FragmentAnswer.{FragmentAnswer}
 use Rattle.command_chaining.specs.declared.FragmentAnswer.the-variants.{Refused as NotFragmented}
 use Rattle.command_chaining.specs.declared.ReassemblyAnswer.the-variants.{Refused as NotReassembled}
-use Rattle.reassemble_command.proofs.CommandTests.{holds-data}
+use Rattle.command_apdu.proofs.Shapes.{holds-data}
 use Rattle.response_chaining.specs.Fragment.{fragmentAnswer as responseFragmentAnswer}
 use Rattle.response_chaining.specs.Reassembly.{statusOf, isMore, dataLength, dataOf as responseData, wellFormed as responseWellFormed, possible as responsePossible, total as responseTotal, reassemblyChecks as responseChecks, taken as responseTaken, concluded as responseConcluded, reassembleResponse, written as responseWritten, reassemblyBuffer as responseBuffer}
 use Rattle.response_chaining.specs.declared.ResponseChain.{ResponseChain}

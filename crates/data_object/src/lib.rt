@@ -1,9 +1,9 @@
 // One data object of a field, read at an index (SP 800-73-4 Part 2, 4.2; document 01, "Objects, encryption and MAC").
+use ber_length::read_length;
 use object_values::right_size;
 use object_values::right_value;
 use tlv::LengthRead;
 use tlv::is_shortest;
-use tlv::read_length;
 use wanted::Wanted;
 use wanted::allowed;
 ghost use mathlib.Core.Path.{_≡_};

@@ -1,3 +1,1 @@
-pub mod Apdus
 pub mod FragmentCases
-pub mod Parts

@@ -1,2 +1,1 @@
 pub mod FragmentCases
-pub mod Parts

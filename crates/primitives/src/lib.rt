@@ -1,49 +1,20 @@
 // AES, CBC and CMAC for C (c/primitives.h): for the benchmark and the comparison with another library.
 use cbc::Outcome;
 use cmac::Cmac;
-use key_schedule::KeySize;
 use octets::block_at;
 use octets::put_bytes;
+use primitive_calls::Key;
+use primitive_calls::expanded;
+use primitive_calls::key_size;
 ghost use mathlib.Core.Path.{_≡_};
-ghost use Prim.Native.Nat.{_≤_};
-ghost use lib.ListN.{length};
-ghost use Rattle.octets.specs.Bytes.{zeros};
-ghost use Rattle.octets.specs.Write.{over};
-ghost use Rattle.key_expansion.specs.KeyExpansion.{schedule};
-ghost use Rattle.primitives.specs.Calls.{keySize, aesAnswer, aesEncryptBuffer, aesDecryptBuffer};
-ghost use Rattle.primitives.specs.Calls.{cbcAnswer, cbcEncryptBuffer, cbcDecryptBuffer, cmacAnswer, cmacBuffer};
+ghost use Rattle.primitive_calls.specs.Calls.{aesAnswer, aesEncryptBuffer, aesDecryptBuffer};
+ghost use Rattle.primitive_calls.specs.Calls.{cbcAnswer, cbcEncryptBuffer, cbcDecryptBuffer, cmacAnswer, cmacBuffer};
 
 const DONE: u32 = 0;
 
 const MALFORMED: u32 = 7;
 
 const BAD_KEY_LENGTH: u32 = 12;
-
-enum Key {
-    Of(KeySize),
-    BadLength,
-}
-
-fn key_size(len: usize) -> Key
-    ensures { λ result. ⌜ result ≡ keySize len ⌝ }
-{
-    if len == 16 {
-        return Key::Of(KeySize::Aes128);
-    }
-    if len == 32 {
-        return Key::Of(KeySize::Aes256);
-    }
-    Key::BadLength
-}
-
-fn expanded(size: KeySize, key: &[u8]) -> [[u8; 4]; 60]
-    requires { ⌜ length (now key) ≤ 32 ⌝ }
-    ensures { λ w. ⌜ w ≡ schedule size (over (zeros 32) (now (key .entry))) ⌝ }
-{
-    let mut bytes = [0u8; 32];
-    put_bytes(&mut bytes, 0, key);
-    key_expansion::key_expansion(size, bytes)
-}
 
 #[no_mangle]
 pub extern "C" fn pivsm_aes_encrypt(key: &[u8], block: &mut [u8]) -> u32

@@ -15,7 +15,7 @@ use Rattle.command_chaining.specs.Apdu.{headerOf, lc, dataOf, isLast}
 use Rattle.command_chaining.specs.Reassembly.{empty, total, reassemblyChecks, taken, concluded, reassembleCommand, written, reassemblyBuffer}
 use Rattle.command_chaining.specs.declared.CommandChain.{CommandChain}
 use Rattle.command_chaining.specs.declared.ReassemblyAnswer.the-variants.{Refused as NotTaken}
-use Rattle.reassemble_command.proofs.CommandTests.{holds-data}
+use Rattle.command_apdu.proofs.Shapes.{holds-data}
 
 -- the data stands in the APDU, and there is room for it
 pub record MayTake (c : CommandChain) (apdu : Bytes) (room : ℕ) : Type 0 where

@@ -1,2 +1,1 @@
-pub mod CommandTests
 pub mod CommandCases

@@ -1,20 +1,18 @@
 // A command field is put together again from its fragments (document 01, "The wire").
+use command_apdu::is_last;
+use command_apdu::lc;
 use command_chaining::CommandChain;
 use command_chaining::Reassembly;
 use command_chaining::ReassemblyAnswer;
+use command_fragment_checks::reassembly_checks;
 use octets::put_bytes;
-use refusal::Refusal;
 use results::Checked;
 ghost use mathlib.Core.Path.{_≡_};
 ghost use Prim.Native.Nat.{_+_, _≤_};
 ghost use lib.ListN.{length};
 ghost use Rattle.octets.specs.Write.{put};
-ghost use Rattle.results.specs.Results.{checked};
-ghost use Rattle.command_chaining.specs.Apdu.{header, headerOf, lc, dataOf, isChained, isLast, wellFormed};
-ghost use Rattle.command_chaining.specs.Reassembly.{empty, possible, continues, total, reassemblyChecks, taken, reassembleCommand, reassemblyBuffer};
-
-// The longest field that is read.
-const MAX_COMMAND_FIELD: usize = 2066;
+ghost use Rattle.command_chaining.specs.Apdu.{header, headerOf, lc, dataOf, isLast};
+ghost use Rattle.command_chaining.specs.Reassembly.{empty, total, taken, reassembleCommand, reassemblyBuffer};
 
 // What a caller starts with.
 pub fn empty_chain() -> CommandChain
@@ -26,108 +24,6 @@ pub fn empty_chain() -> CommandChain
         p1: 0,
         p2: 0,
     }
-}
-
-fn lc(apdu: &[u8]) -> usize
-    requires { ⌜ 5 ≤ length (now apdu) ⌝ }
-    ensures value { λ n. ⌜ n ≡ lc (now (apdu .entry)) ⌝ }
-    ensures byte { λ n. ⌜ n ≤ 255 ⌝ }
-{
-    apdu[4] as usize
-}
-
-fn is_chained(apdu: &[u8]) -> bool
-    requires { ⌜ 5 ≤ length (now apdu) ⌝ }
-    ensures { λ chained. ⌜ chained ≡ isChained (now (apdu .entry)) ⌝ }
-{
-    let n = lc(apdu);
-    if apdu[0] != 0x1C {
-        return false;
-    }
-    apdu.len() == 5 + n
-}
-
-fn is_last(apdu: &[u8]) -> bool
-    requires { ⌜ 5 ≤ length (now apdu) ⌝ }
-    ensures { λ last. ⌜ last ≡ isLast (now (apdu .entry)) ⌝ }
-{
-    let n = lc(apdu);
-    if apdu[0] != 0x0C {
-        return false;
-    }
-    if apdu.len() != 6 + n {
-        return false;
-    }
-    apdu[5 + n] == 0x00
-}
-
-fn well_formed(apdu: &[u8]) -> bool
-    ensures { λ right. ⌜ right ≡ wellFormed (now (apdu .entry)) ⌝ }
-{
-    if apdu.len() < 5 {
-        return false;
-    }
-    if lc(apdu) < 1 {
-        return false;
-    }
-    if is_chained(apdu) {
-        return true;
-    }
-    is_last(apdu)
-}
-
-fn possible(chain: CommandChain) -> bool
-    ensures { λ right. ⌜ right ≡ possible chain ⌝ }
-{
-    if chain.len != 0 {
-        return chain.len <= MAX_COMMAND_FIELD;
-    }
-    if chain.ins != 0 {
-        return false;
-    }
-    if chain.p1 != 0 {
-        return false;
-    }
-    chain.p2 == 0
-}
-
-fn continues(chain: CommandChain, ins: u8, p1: u8, p2: u8) -> bool
-    ensures { λ right. ⌜ right ≡ continues chain (header ins p1 p2) ⌝ }
-{
-    if chain.len == 0 {
-        return true;
-    }
-    if ins != chain.ins {
-        return false;
-    }
-    if p1 != chain.p1 {
-        return false;
-    }
-    p2 == chain.p2
-}
-
-// The state is tested before the sum is made, so that the sum fits a usize.
-fn reassembly_checks(chain: CommandChain, apdu: &[u8], room: usize) -> Checked
-    ensures { λ r. ⌜ r ≡ checked (reassemblyChecks chain (now (apdu .entry)) room) ⌝ }
-{
-    if !well_formed(apdu) {
-        return Checked::Refused(Refusal::Malformed);
-    }
-    if !possible(chain) {
-        return Checked::Refused(Refusal::BrokenChain);
-    }
-    if !continues(chain, apdu[1], apdu[2], apdu[3]) {
-        return Checked::Refused(Refusal::BrokenChain);
-    }
-    let n = lc(apdu);
-    let needed = chain.len + n;
-    if needed > MAX_COMMAND_FIELD {
-        return Checked::Refused(Refusal::TooLong);
-    }
-    if needed > room {
-        return Checked::Refused(Refusal::BufferTooSmall(needed));
-    }
-    Checked::Passed
 }
 
 // Of a fragment that is taken: the bytes so far, and whether it is the last.

@@ -1,2 +1,1 @@
-pub mod ResponseTests
 pub mod ResponseCases

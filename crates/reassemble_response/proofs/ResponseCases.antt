@@ -14,7 +14,7 @@ use Rattle.results.proofs.Checks.{was-passed, was-refused}
 use Rattle.response_chaining.specs.Reassembly.{dataOf, statusOf, isMore, empty, total, reassemblyChecks, taken, concluded, reassembleResponse, written, reassemblyBuffer}
 use Rattle.response_chaining.specs.declared.ResponseChain.{ResponseChain}
 use Rattle.response_chaining.specs.declared.ResponseReassemblyAnswer.the-variants.{Refused as NotTaken}
-use Rattle.reassemble_response.proofs.ResponseTests.{has-status}
+use Rattle.response_fragment_checks.proofs.ResponseTests.{has-status}
 
 -- it has a whole status word, and there is room for its data
 pub record MayTake (c : ResponseChain) (bytes : Bytes) (room : ℕ) : Type 0 where

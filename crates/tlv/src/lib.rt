@@ -4,7 +4,7 @@ ghost use mathlib.Core.Path.{_≡_};
 ghost use Prim.Native.Nat.{_+_, _<_, _≤_};
 ghost use lib.ListN.{length};
 ghost use Rattle.octets.specs.Write.{Wrote};
-ghost use Rattle.tlv.specs.Length.{lengthField, readLength, isShortest};
+ghost use Rattle.tlv.specs.Length.{lengthField, isShortest};
 
 pub enum LengthRead {
     // The length, and how many bytes its field has.
@@ -37,39 +37,6 @@ pub fn put_length(out: &mut [u8], at: usize, n: usize) -> usize
         return put_bytes(out, at, &[0x81, (n % 256) as u8]);
     }
     put_bytes(out, at, &[0x82, (n / 256 % 256) as u8, (n % 256) as u8])
-}
-
-fn wide(b: u8) -> usize
-    ensures { λ r. ⌜ r ≡ b ⌝ }
-{
-    b as usize
-}
-
-// The length whose field starts at index `at`, in any form of one to three bytes.
-pub fn read_length(bytes: &[u8], at: usize) -> LengthRead
-    ensures { λ r. ⌜ r ≡ readLength (now (bytes .entry)) at ⌝ }
-{
-    let end = bytes.len();
-    if end <= at {
-        return LengthRead::BadForm;
-    }
-    let b = bytes[at];
-    if b < 128 {
-        return LengthRead::Length(wide(b), 1);
-    }
-    if b == 0x81 {
-        if end - at <= 1 {
-            return LengthRead::BadForm;
-        }
-        return LengthRead::Length(wide(bytes[at + 1]), 2);
-    }
-    if b == 0x82 {
-        if end - at <= 2 {
-            return LengthRead::BadForm;
-        }
-        return LengthRead::Length(wide(bytes[at + 1]) * 256 + wide(bytes[at + 2]), 3);
-    }
-    LengthRead::BadForm
 }
 
 // Whether a length read from a field of that size stood in its shortest form.

@@ -1,36 +1,24 @@
--- The stages of unwrapping a command: behind the reading, the reading, and the tests before it.
+-- The stages of unwrapping a command: the reading, and the tests before it.
 -- Assumes nothing.
-use mathlib.Core.Path.{_≡_, sym, ap}
-use Prim.Native.Nat.{ℕ, _+_}
+use mathlib.Core.Path.{_≡_, ap}
+use Prim.Native.Nat.{ℕ}
 use lib.ListN.{length}
 use Rattle.octets.specs.Bytes.{Bytes}
-use Rattle.counter.specs.Counter.{commandCounter}
-use Rattle.fields.specs.Field.{readField, coveredOf}
+use Rattle.fields.specs.Field.{readField}
 use Rattle.fields.specs.declared.Objects.{Objects}
 use Rattle.data_object.specs.declared.Breach.{Breach}
 use Rattle.fields.specs.declared.FieldRead.{FieldRead}
 use Rattle.fields.specs.declared.FieldRead.the-variants.{Read, Malformed as BadField, Missing}
 use Rattle.refusal.specs.declared.Refusal.{Refusal}
 use Rattle.refusal.specs.declared.Refusal.the-variants.{Malformed, MissingObject}
-use Rattle.stored_keys.specs.StoredKeys.{keyIn}
 use Rattle.session.specs.declared.Session.{Session}
-use Rattle.ciphers.specs.Aes.{aesCiphers}
 use Rattle.protocol.specs.Permission.{commandWanted}
-use Rattle.protocol.specs.Answer.{Answer, refused, gave, _and-then_, Outcome, notGiven, concluded, objectsOf}
-use Rattle.protocol.specs.Command.{CommandGiven, headerRead, commandMac, commandAccepted, unwrapCommandChecks, openCommand as opens, cardUnwraps}
+use Rattle.protocol.specs.Answer.{Answer, refused, _and-then_, Outcome, notGiven, concluded, objectsOf}
+use Rattle.protocol.specs.Command.{CommandGiven, unwrapCommandChecks, cardUnwraps}
 use Rattle.results.specs.Results.{checked}
 use Rattle.results.specs.declared.Checked.the-variants.{Passed, Refused}
 use Rattle.results.proofs.Checks.{tests-passed, test-refused}
-use Rattle.verified_text.specs.VerifiedText.{verifiedText}
-use Rattle.verified_text.proofs.Opened.{stages-first}
 use Rattle.unwrap_command.specs.UnwrapCommand.{unwrapCommand, readCommand, openCommand}
-
-module _ (s : Session) (ins p1 p2 : ℕ) (field : Bytes) (room : ℕ) (o : Objects) where
-  -- room, MAC and text come first, by the counter and the full MAC that are computed
-  pub text-first : (counter full : Bytes) → counter ≡ commandCounter (s .count + 1) → full ≡ commandMac aesCiphers s (headerRead ins p1 p2 o) (coveredOf field o)
-      → openCommand s ins p1 p2 field room o ≡ (verifiedText (keyIn (s .suite) (s .«sk_enc»)) counter full field room o and-then (λ d. gave (commandAccepted aesCiphers s ins p1 p2 field o d)))
-  unfolding opens aesCiphers
-  text-first counter full e f = rw (e, f) (sym (stages-first (keyIn (s .suite) (s .«sk_enc»)) (commandCounter (s .count + 1)) (commandMac aesCiphers s (headerRead ins p1 p2 o) (coveredOf field o)) field room o (λ d. gave (commandAccepted aesCiphers s ins p1 p2 field o d))))
 
 -- ---- the reading
 

@@ -13,7 +13,8 @@ use Rattle.results.specs.Results.{checked}
 use Rattle.results.specs.declared.Checked.the-variants.{Passed, Refused}
 use Rattle.results.proofs.Checks.{tests-passed, test-refused}
 use Rattle.protocol.specs.Message.{header}
-use Rattle.wrap_command.specs.WrapCommand.{wrapCommand, commandWritten}
+use Rattle.written_command.specs.WrittenCommand.{commandWritten}
+use Rattle.wrap_command.specs.WrapCommand.{wrapCommand}
 
 module _ (s : Session) (ins p1 p2 : ℕ) (le : Bool) (d : Bytes) (room : ℕ) where
   pub when-passed : checked (wrapCommandChecks s (header ins p1 p2 le) (length d) room) ≡ Passed → wrapCommand s ins p1 p2 le d room ≡ given (commandWritten s ins p1 p2 le d)

@@ -5,12 +5,8 @@ use Rattle.octets.specs.Bytes.{Bytes}
 use Rattle.session.specs.declared.Session.{Session}
 use Rattle.ciphers.specs.Aes.{aesCiphers}
 use Rattle.protocol.specs.Message.{header}
-use Rattle.protocol.specs.Answer.{Outcome, Out}
-use Rattle.protocol.specs.Command.{commandCiphertext, commandWrapped, hostWraps}
+use Rattle.protocol.specs.Answer.{Out}
+use Rattle.protocol.specs.Command.{hostWraps}
 
 abbrev pub wrapCommand : Session → ℕ → ℕ → ℕ → Bool → Bytes → ℕ → Out Bytes
 wrapCommand s ins p1 p2 le d room = hostWraps aesCiphers s (record { header = header ins p1 p2 le; payload = d }) room
-
--- where no test refuses
-abbrev pub commandWritten : Session → ℕ → ℕ → ℕ → Bool → Bytes → Outcome Bytes
-commandWritten s ins p1 p2 le d = commandWrapped aesCiphers s (header ins p1 p2 le) (commandCiphertext aesCiphers s d)

@@ -12,7 +12,8 @@ use Rattle.results.specs.Results.{checked}
 use Rattle.results.specs.declared.Checked.the-variants.{Passed, Refused}
 use Rattle.results.proofs.Checks.{tests-passed, test-refused}
 use Rattle.protocol.specs.Message.{status}
-use Rattle.wrap_response.specs.WrapResponse.{wrapResponse, responseWritten}
+use Rattle.written_response.specs.WrittenResponse.{responseWritten}
+use Rattle.wrap_response.specs.WrapResponse.{wrapResponse}
 
 module _ (s : Session) (sw1 sw2 : ℕ) (d : Bytes) (room : ℕ) where
   pub when-passed : checked (wrapResponseChecks s (status sw1 sw2) (length d) room) ≡ Passed → wrapResponse s sw1 sw2 d room ≡ given (responseWritten s sw1 sw2 d)

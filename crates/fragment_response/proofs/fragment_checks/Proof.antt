@@ -13,7 +13,7 @@ use Rattle.protocol.specs.Answer.{require_else_⨾_}
 use Rattle.protocol.specs.Message.{status}
 use Rattle.response_chaining.specs.Fragment.{fragmentResponse}
 use Rattle.response_chaining.specs.declared.ResponseFragmentAnswer.the-variants.{Fragment}
-use Rattle.fragment_response.proofs.Parts.{part-order, part-within, length-fragment}
+use Rattle.response_parts.proofs.Parts.{part-order, part-within, length-fragment}
 
 returns : tie.Need-returns
 unfolding fragmentResponse require_else_⨾_

@@ -14,7 +14,7 @@ use Rattle.protocol.specs.Message.{status}
 use Rattle.response_chaining.specs.Fragment.{next, fragmentResponse, fragmentAnswer}
 use Rattle.response_chaining.specs.declared.ResponseFragmentAnswer.the-variants.{Fragment}
 use Rattle.fragment_response.proofs.FragmentCases.{may-fragment, was-refused}
-use Rattle.fragment_response.proofs.Parts.{part-order, part-within, part-fragment, length-fragment}
+use Rattle.response_parts.proofs.Parts.{part-order, part-within, part-fragment, length-fragment}
 
 put-fragment-requires : tie.Need-put-fragment-requires
 put-fragment-requires c κs =

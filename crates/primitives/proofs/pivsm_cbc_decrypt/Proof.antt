@@ -12,9 +12,9 @@ use Rattle.octets.specs.Bytes.{Bytes}
 use Rattle.aes.specs.Aes.{invCiph, invAes}
 use Rattle.cbc.specs.Cbc.{cbcDecrypt}
 use Rattle.cbc.specs.Whole.{whole}
-use Rattle.primitives.specs.Calls.{blockLong}
+use Rattle.primitive_calls.specs.Calls.{blockLong}
 use Rattle.cbc.proofs.Outcomes.{done-whole, done-changed, partial-not-whole, partial-kept}
-use Rattle.primitives.proofs.Results.{key-fits, bad-key, malformed, done}
+use Rattle.primitive_calls.proofs.Results.{key-fits, bad-key, malformed, done}
 use Rattle.primitives.proofs.pivsm_cbc_decrypt.Statement.{statement}
 use Rattle.primitives.proofs.pivsm_cbc_decrypt.Tie as tie
 
