@@ -97,8 +97,8 @@ module _ (K : Keys) where
     unfolding step
     step-is =
         ap (λ (side : Side).
-          let o = does aesCiphers (sessionAt ds side) (call e) in
-          moved ds side (o .next) (entered aesCiphers K (ds .transcript) (call e) (o .answer))) (side-is e)
+        let o = does aesCiphers (sessionAt ds side) (call e) in
+        moved ds side (o .next) (entered aesCiphers K (ds .transcript) (call e) (o .answer))) (side-is e)
 
     match-step : Match (after K st e) (step aesCiphers K ds (call e))
     unfolding after

@@ -89,10 +89,11 @@ read-from held len h e = let r = go (leb len (length held)) refl e in record { l
     go true f e =
         let fits : len ≤ length held = leb-true len (length held) f in
         let size : length (take len held) ≡ 138 = decoded-read (take len held) e .first .size in
-        let l : length (take len held) ≡ len = omega (arith, length-take len held) in
-        (omega (arith, size, l),
-        ap (over held) (encode-decode (take len held) (bytes-taken len held h) e)
-        ∙ ap (λ (n : ℕ). take len held ++ drop n held) l ∙ take-append-drop len held)
+        let l : length (take len held) ≡ len = omega (arith, length-take len held) in (
+          omega (arith, size, l),
+          ap (over held) (encode-decode (take len held) (bytes-taken len held h) e)
+              ∙ ap (λ (n : ℕ). take len held ++ drop n held) l ∙ take-append-drop len held,
+        )
     go false f e = never (cc)
 
 -- ---- refusals

@@ -59,7 +59,11 @@ pub extern "C" fn pivsm_open_host(
     ensures session { λ _. ⌜ now (session .exit) ≡ buffer (λ bytes. bytes) (now (session .entry)) (openOn Host suite (keys (now («sk_enc» .entry)) (now («sk_mac» .entry)) (now («sk_rmac» .entry))) (length (now (session .entry)))) ⌝ }
     ensures bytes { λ _. ⌜ KeysOfBytes (keys (now («sk_enc» .entry)) (now («sk_mac» .entry)) (now («sk_rmac» .entry))) ⌝ }
 {
-    put_opened(Session::open_host(suite, sk_enc, sk_mac, sk_rmac), session, len)
+    put_opened(
+        Session::open_host(suite, sk_enc, sk_mac, sk_rmac),
+        session,
+        len,
+    )
 }
 
 // Refusals 11, 12 and 6.
@@ -77,5 +81,9 @@ pub extern "C" fn pivsm_open_card(
     ensures session { λ _. ⌜ now (session .exit) ≡ buffer (λ bytes. bytes) (now (session .entry)) (openOn Card suite (keys (now («sk_enc» .entry)) (now («sk_mac» .entry)) (now («sk_rmac» .entry))) (length (now (session .entry)))) ⌝ }
     ensures bytes { λ _. ⌜ KeysOfBytes (keys (now («sk_enc» .entry)) (now («sk_mac» .entry)) (now («sk_rmac» .entry))) ⌝ }
 {
-    put_opened(Session::open_card(suite, sk_enc, sk_mac, sk_rmac), session, len)
+    put_opened(
+        Session::open_card(suite, sk_enc, sk_mac, sk_rmac),
+        session,
+        len,
+    )
 }

@@ -13,10 +13,13 @@ returns : tie.Need-returns
 returns c =
     let held = c .before .before .before .before .before .before .before .before .before .before .args .session .now in
     let opened = c .before .before .before .before .before .open-card .ensures in
-    let p = c .before .before .put-opened .ensures in
-    (p .0 ∙ ap (λ (o : Opened). openGives (bytesOf o (length held)) .number) (opened .0),
-    (p .1 .0 ∙ ap (λ (o : Opened). openGives (bytesOf o (length held)) .len) (opened .0),
-    (p .1 .1 ∙ ap (λ (o : Opened). buffer (λ (bytes : Bytes). bytes) held (bytesOf o (length held))) (opened .0), opened .1)))
+    let p = c .before .before .put-opened .ensures in (
+      p .0 ∙ ap (λ (o : Opened). openGives (bytesOf o (length held)) .number) (opened .0),
+      (
+        p .1 .0 ∙ ap (λ (o : Opened). openGives (bytesOf o (length held)) .len) (opened .0),
+        (p .1 .1 ∙ ap (λ (o : Opened). buffer (λ (bytes : Bytes). bytes) held (bytesOf o (length held))) (opened .0), opened .1),
+      ),
+    )
 
 pub pivsm-open-card-spec : {M : Type 1} → statement M
 pivsm-open-card-spec = tie.close (tie.spec (λ c κs. search needs) (λ c κs. search needs) (λ c. search needs) returns)

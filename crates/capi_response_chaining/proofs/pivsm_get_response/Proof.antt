@@ -25,9 +25,13 @@ unfolding buffer getResponseOf require_else_⨾_ getResponse
 returns-2 c =
     let a = c .before .before .before .before .before .before .before .before .args in
     let apdu = a .apdu .now in
-    let e : getResponseOf (a .le) (length apdu) ≡ gave (getResponse (a .le)) = rw (le-leb 5 (length apdu) (c .before .before .before .before .before .before .if1 .left)) in
-    (ap (λ (x : Answer Bytes). getResponseGives x .number) (sym e), (ap (λ (x : Answer Bytes). getResponseGives x .len) (sym e),
-    wrote-all (c .before .before .put-bytes .ensures) ∙ ap (over apdu) (c .before .before .before .before .before .get-response .ensures) ∙ ap (buffer (λ (bytes : Bytes). bytes) apdu) (sym e)))
+    let e : getResponseOf (a .le) (length apdu) ≡ gave (getResponse (a .le)) = rw (le-leb 5 (length apdu) (c .before .before .before .before .before .before .if1 .left)) in (
+      ap (λ (x : Answer Bytes). getResponseGives x .number) (sym e),
+      (
+        ap (λ (x : Answer Bytes). getResponseGives x .len) (sym e),
+        wrote-all (c .before .before .put-bytes .ensures) ∙ ap (over apdu) (c .before .before .before .before .before .get-response .ensures) ∙ ap (buffer (λ (bytes : Bytes). bytes) apdu) (sym e),
+      ),
+    )
 
 pub pivsm-get-response-spec : {M : Type 1} → statement M
 pivsm-get-response-spec = tie.close (tie.spec returns (λ c κs. search needs) (λ c. search needs) (λ c κs. search needs) (λ c. search needs) returns-2)
