@@ -36,10 +36,10 @@ gate: build
 	@test "$$(cat build/status)" = 0
 
 # The gate tries the wrong programs of each crate's must-fail/; edits/CRATE/ has more of them, which take as long again.
-edits: build
-	@rm -rf build/edits && mkdir build/edits && cp -r crates crates.txt build/edits
-	@for crate in $$(ls edits); do cp edits/$$crate/*.edit build/edits/crates/$$crate/must-fail/; done
-	@cd build/edits && RT_JOBS=4 rt ci
+edits:
+	@rm -rf target/edits && mkdir -p target/edits && cp -r crates crates.txt target/edits
+	@for crate in $$(ls edits); do cp edits/$$crate/*.edit target/edits/crates/$$crate/must-fail/; done
+	@cd target/edits && RT_JOBS=4 rt ci
 
 # tables.rt stands 16 to a row, as in the standard; the formatter would put each entry on its own line.
 format: build
@@ -115,13 +115,16 @@ build/bench_messages: c/bench_messages.c c/turns.c c/plain_aes.c c/ciphers.c c/p
 
 $(PRINTED:%=build/%) $(addprefix build/,vectors differential differential_sanitized compare bench bench_messages): $(HEADERS) | packages build
 
-# rt check proves on all processors, rt staticlib on one; rt knows what is already proved, as after rt ci. Two rt at a
-# time would be in each other's way. Each crate's archive is one object, with its exported calls alone.
+# rt knows what is already proved, as after rt ci. Each crate's archive is one object, with its exported calls alone; rt makes it on one processor, and two rt in one
+# tree are in each other's way, so a second tree has half of them.
+archives = for crate in $(1); do rt staticlib $$crate >target/log/archive 2>&1 || { cat target/log/archive; exit 1; }; done
+
 build/libpivsm.a: $(CODE) | packages build
 	@rt check $(CALLS)
-	@for crate in $(CALLS); do rt staticlib $$crate >build/log 2>&1 || { cat build/log; exit 1; }; done
-	@cd build && for crate in $(CALLS); do ar x ../target/staticlib/lib$$crate.a || exit 1; done
-	@rm -f $@
+	@rm -rf target/second && mkdir -p target/second/target && cp -r crates crates.txt target/second && cp -r target/rlib target/stamp target/log target/second/target
+	@( $(call archives,$(wordlist 1,4,$(CALLS))) ) & half=$$!; ( cd target/second && $(call archives,$(wordlist 5,99,$(CALLS))) ) && wait $$half
+	@cd build && for crate in $(CALLS); do ar x $$(ls ../target/staticlib/lib$$crate.a ../target/second/target/staticlib/lib$$crate.a 2>/dev/null) || exit 1; done
+	@rm -rf $@ target/second
 	@ar rcs $@ $(CALLS:%=build/%.o)
 
 build/libprimitives.a: $(CODE) | packages build

@@ -86,11 +86,13 @@ static size_t put_status(uint16_t sw, uint8_t *answer)
 /* The next bytes of the response; le says how many the host asked for. */
 static size_t hand_out(struct card *card, uint8_t le, uint8_t *answer)
 {
-    size_t answer_len;
-    uint32_t result = pivsm_fragment_response(card->sw, card->response, card->response_len, card->at, le, answer,
-                                              PIVSM_RESPONSE_APDU_MAX, &answer_len, &card->at);
+    size_t answer_len, next;
 
-    return result == PIVSM_OK ? answer_len : put_status(SW_NOT_FOUND, answer);
+    if (pivsm_fragment_response(card->sw, card->response, card->response_len, card->at, le, answer,
+                                PIVSM_RESPONSE_APDU_MAX, &answer_len, &next) != PIVSM_OK)
+        return put_status(SW_NOT_FOUND, answer); /* nothing is left, and so it stays */
+    card->at = next;
+    return answer_len;
 }
 
 /* A whole command. Where it is refused, no response can be wrapped, so the status goes out without protection. */
@@ -101,11 +103,11 @@ static size_t handle_command(struct card *card, uint8_t ins, uint8_t p1, uint8_t
     size_t data_len, response_len;
     bool le = false;
 
+    card->response_len = card->at = 0; /* what was left of the last response is gone */
     if (pivsm_unwrap_command(card->session, sizeof card->session, &card->session_len, ins, p1, p2, card->command,
                              field_len, data, sizeof data, &data_len, &le) != PIVSM_OK)
         return put_status(SW_BAD_SECURE_MESSAGING, answer);
     card->sw = carry_out(card, ins, data, data_len, response, &response_len);
-    card->at = 0;
     if (pivsm_wrap_response(card->session, sizeof card->session, &card->session_len, card->sw, response, response_len,
                             card->response, sizeof card->response, &card->response_len) != PIVSM_OK)
         return put_status(SW_BAD_SECURE_MESSAGING, answer);

@@ -25,7 +25,7 @@
  *     is PIVSM_BAD_SESSION, before all else. Room and length are parameters because a session may grow in a later
  *     version: pass on the length that the last call left, too.
  *   - Pass on the bytes that the last call left, and no earlier ones. An earlier session accepts an old response
- *     again, and encrypts another text with the same counter.
+ *     again, and encrypts another text with the same counter. So store the new bytes before what was wrapped leaves.
  *   - The bytes are the session keys. Protect them as such; they are neither encrypted nor authenticated. Copies
  *     on the stack of a call are not wiped.
  *   - One thread at a time uses a session. Different sessions do not touch each other.
@@ -43,7 +43,8 @@
  * PIVSM_BUFFER_TOO_SMALL, and the status word at PIVSM_UNPROTECTED.
  *
  * NOT PROMISED. AES works by table look-ups, so time and cache behaviour tell of keys and data to those who can
- * measure them. Who puts back old session bytes is not noticed. Not here: key agreement, certificates, PINs,
+ * measure them. Who puts back old session bytes is not noticed. A MAC has 8 bytes, as the standard wants it. A call
+ * takes up to 40 KB of stack. Not here: key agreement, certificates, PINs,
  * extended-length APDUs, the protection of sessions at rest.
  */
 #ifndef PIVSM_H
@@ -95,7 +96,8 @@ enum pivsm_result {
     PIVSM_NOT_PERMITTED = 3,     /* an INS, Le, absence of data or SW1 that secure messaging does not carry */
     PIVSM_TOO_LONG = 4,          /* over one of the limits above */
     PIVSM_COMMAND_LIMIT_REACHED = 5, /* open a new session */
-    PIVSM_BUFFER_TOO_SMALL = 6,  /* nothing was written; repeat the call with the size that is given */
+    PIVSM_BUFFER_TOO_SMALL = 6,  /* nothing was written; repeat the call with the size that is given, but for a
+                                    reassembly, which is then to start again from the first fragment */
     PIVSM_MALFORMED = 7,
     PIVSM_MISSING_OBJECT = 8,    /* a data object that is required is not there */
     PIVSM_BAD_MAC = 9,           /* the session is now closed */
@@ -304,7 +306,7 @@ uint32_t pivsm_fragment_command(uint8_t ins, uint8_t p1, uint8_t p2, const uint8
  *   PIVSM_MALFORMED         not an APDU that pivsm_fragment_command makes
  *   PIVSM_BROKEN_CHAIN      its INS, P1 or P2 is not the chain's, or no call leaves such a chain
  *   PIVSM_TOO_LONG          with this fragment, more than PIVSM_COMMAND_FIELD_MAX bytes
- *   PIVSM_BUFFER_TOO_SMALL
+ *   PIVSM_BUFFER_TOO_SMALL  start again from the first fragment, with more room: the chain was dropped
  *   PIVSM_OK
  */
 uint32_t pivsm_reassemble_command(uint64_t *chain, const uint8_t *apdu, size_t apdu_len, uint8_t *field,
@@ -319,7 +321,7 @@ uint32_t pivsm_reassemble_command(uint64_t *chain, const uint8_t *apdu, size_t a
  *   le         in   how many bytes were asked for; 0 means 256
  *   apdu       out  the data and SW1 SW2: 61 and the number of bytes left (00 for 256 and more), or sw at the end
  *   apdu_len   out  OK: bytes written; BUFFER_TOO_SMALL: the size needed; else 0
- *   next       out  OK: how many bytes of field have then been handed out; else 0
+ *   next       out  OK: how many bytes of field have then been handed out; else 0: take it for the next `at` on OK only
  *
  * Returns the first that applies:
  *   PIVSM_NOT_PERMITTED     SW1 is 61
@@ -345,7 +347,7 @@ uint32_t pivsm_fragment_response(uint16_t sw, const uint8_t *field, size_t field
  *   PIVSM_MALFORMED         no whole status word, SW1 61 without data, or more than 256 bytes of data
  *   PIVSM_BROKEN_CHAIN      no call leaves such a chain
  *   PIVSM_TOO_LONG          with this fragment, more than PIVSM_RESPONSE_FIELD_MAX bytes
- *   PIVSM_BUFFER_TOO_SMALL
+ *   PIVSM_BUFFER_TOO_SMALL  start again from the first fragment, with more room: the chain was dropped
  *   PIVSM_OK
  */
 uint32_t pivsm_reassemble_response(uint64_t *chain, const uint8_t *apdu, size_t apdu_len, uint8_t *field,

@@ -7,4 +7,5 @@ pub mod OpenServed
 pub mod OpenedBytes
 pub mod Step
 pub mod Runs
+pub mod Exists
 pub mod Theorems

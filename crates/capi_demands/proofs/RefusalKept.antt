@@ -2,14 +2,16 @@
 use mathlib.Core.Path.{_≡_, refl, sym, ap, subst, _∙_}
 use mathlib.Core.Bool.{Bool, true, false}
 use mathlib.Core.Logic.{_⊎_}
-use mathlib.Core.List.{[], _∷_, List·Memᴰ, List·Memᴰ·head, List·Memᴰ·tail}
+use mathlib.Core.List.{List, [], _∷_, List·Memᴰ, List·Memᴰ·head, List·Memᴰ·tail}
 use Prim.Native.Nat.{ℕ}
 use native.Mathlib.Omega.{arith}
 use lib.Dec.{leb}
-use lib.ListN.{length}
+use lib.ListN.{length, drop}
+use lib.Seq.{drop-at}
 use denote.Ref.{now}
 use Rattle.octets.specs.Bytes.{Bytes}
 use Rattle.octets.specs.Choice.{if_then_else_}
+use Rattle.octets.specs.Write.{over}
 use Rattle.refusal.specs.Refusal.{number as numberOfRefusal, size, status as statusOfRefusal}
 use Rattle.refusal.specs.declared.Refusal.{Refusal}
 use Rattle.refusal.specs.declared.Refusal.the-variants.{SessionClosed, OutOfTurn, NotPermitted, TooLong, CommandLimit, BufferTooSmall, Malformed, MissingObject, BadMac, BadPadding, UnknownSuite, BadKeyLength, Unprotected, BrokenChain, FragmentTooLong, BadSession}
@@ -23,19 +25,28 @@ use Rattle.session.specs.declared.Side.{Side}
 use Rattle.session.specs.declared.Side.the-variants.{Host, Card}
 use Rattle.session.specs.declared.Session.{Session}
 use Rattle.session.specs.declared.Opened.{Opened}
-use Rattle.session.specs.declared.Opening.the-variants.{Opened as Done}
+use Rattle.session.specs.declared.Opening.the-variants.{Opened as IsOpen}
 use Rattle.saved.specs.Saved.{encode}
+use Rattle.saved.specs.declared.Decoded.{Decoded}
+use Rattle.saved.specs.declared.Decoding.{Decoding}
+use Rattle.saved.specs.declared.Decoding.the-variants.{Decoded as Done, Refused as Unread}
+use Rattle.ciphers.specs.Aes.{aesCiphers}
 use Rattle.protocol.specs.Answer.{Answer, refused, gave, require_else_⨾_, buffer}
 use Rattle.protocol.specs.Command.{CommandGiven}
 use Rattle.protocol.specs.Message.{Response}
 use Rattle.protocol.specs.RefusalKeeps.{order}
-use Rattle.protocol.specs.Transcript.{does}
+use Rattle.protocol.specs.Transcript.{Gives, does}
+use Rattle.protocol.proofs.Theorems.{demand1}
 use Rattle.results.specs.Results.{wrapAnswer, commandAnswer, responseAnswer}
 use Rattle.values.specs.Values.{wrapValues, commandValues, responseValues}
 use Rattle.capi_open.specs.OpenOn.{openedAs, bytesOf, openOn}
 use Rattle.capi_demands.specs.Calls.{hostKeys, cardKeys, Event, wrapsCommand, unwrapsCommand, wrapsResponse, unwrapsResponse, closes, held, len, before, number, written, status, le, call}
-use Rattle.capi_demands.specs.RefusalKeeps.{RefusalKeeps, Refuses, HostOpeningRefuses, CardOpeningRefuses}
-use Rattle.capi_demands.proofs.ServedCall.{served-keeps}
+use Rattle.capi_demands.specs.RefusalKeeps.{RefusalKeeps, SixteenExactly, RestKeeps, Refuses, HostOpeningRefuses, CardOpeningRefuses}
+use Rattle.capi_demands.proofs.OpenServed.{hit, met}
+use Rattle.capi_demands.proofs.OpenedBytes.{number-suc}
+use Rattle.capi_demands.proofs.Step.{lacks-16}
+use Rattle.capi_demands.proofs.ServedCall.{read-16, served-keeps}
+use Rattle.session_bytes.specs.SessionBytes.{sessionIn, servedBy}
 use Rattle.capi_demands.proofs.Told.{served, numberOf, number-told, held-told, len-told, output-told, held-bytes}
 
 -- an answer whose number is not 0 is a refusal
@@ -81,21 +92,29 @@ no-status BadSession h = refl
 
 -- ---- the numbers of a refusal
 
-written-none : (e : Event) (r : Refusal) → served e .answer ≡ refused r → (numberOfRefusal r ≡ 6 → ⊥) → written e ≡ 0
-unfolding does
-written-none (wrapsCommand side c) r q h = c .met .1 .0 ∙ ap (λ (a : Answer Bytes). wrapValues (wrapAnswer a) .len) q ∙ no-size r h
-written-none (unwrapsCommand side c) r q h = c .met .1 .0 ∙ ap (λ (a : Answer CommandGiven). commandValues (commandAnswer a) .len) q ∙ no-size r h
-written-none (wrapsResponse side c) r q h = c .met .1 .0 ∙ ap (λ (a : Answer Bytes). wrapValues (wrapAnswer a) .len) q ∙ no-size r h
-written-none (unwrapsResponse side c) r q h = c .met .1 .0 ∙ ap (λ (a : Answer Response). responseValues (responseAnswer a) .len) q ∙ no-size r h
-written-none (closes side c) r q h = refl
+-- a number that no order has
+lacks-13 : (ns : List ℕ) (r : Refusal) → hit 13 ns ≡ false → List·Memᴰ (numberOfRefusal r) ns → numberOfRefusal r ≡ 13 → ⊥
+lacks-13 ns r f m e = let z : false ≡ true = sym f ∙ met 13 ns (subst (λ (i : ℕ). List·Memᴰ i ns) e m) in let w : _≡_ {A = ℕ} 0 1 = cc in omega arith
 
-status-none : (e : Event) (r : Refusal) → served e .answer ≡ refused r → (numberOfRefusal r ≡ 13 → ⊥) → status e ≡ 0
+only-16 : (r : Refusal) → List·Memᴰ (numberOfRefusal r) (16 ∷ []) → numberOfRefusal r ≡ 6 → ⊥
+unfolding hit
+only-16 r m e = let z : false ≡ true = met 6 (16 ∷ []) (subst (λ (i : ℕ). List·Memᴰ i (16 ∷ [])) e m) in let w : _≡_ {A = ℕ} 0 1 = cc in omega arith
+
+length-told : (e : Event) (r : Refusal) → served e .answer ≡ refused r → List·Memᴰ (numberOfRefusal r) (16 ∷ order (call e)) → written e ≡ size r
 unfolding does
-status-none (wrapsCommand side c) r q h = refl
-status-none (unwrapsCommand side c) r q h = refl
-status-none (wrapsResponse side c) r q h = refl
-status-none (unwrapsResponse side c) r q h = c .met .1 .1 .0 ∙ ap (λ (a : Answer Response). responseValues (responseAnswer a) .status) q ∙ no-status r h
-status-none (closes side c) r q h = refl
+length-told (wrapsCommand side c) r q m = c .met .1 .0 ∙ ap (λ (a : Answer Bytes). wrapValues (wrapAnswer a) .len) q
+length-told (unwrapsCommand side c) r q m = c .met .1 .0 ∙ ap (λ (a : Answer CommandGiven). commandValues (commandAnswer a) .len) q
+length-told (wrapsResponse side c) r q m = c .met .1 .0 ∙ ap (λ (a : Answer Bytes). wrapValues (wrapAnswer a) .len) q
+length-told (unwrapsResponse side c) r q m = c .met .1 .0 ∙ ap (λ (a : Answer Response). responseValues (responseAnswer a) .len) q
+length-told (closes side c) r q m = sym (no-size r (only-16 r m))
+
+status-told : (e : Event) (r : Refusal) → served e .answer ≡ refused r → List·Memᴰ (numberOfRefusal r) (16 ∷ order (call e)) → status e ≡ statusOfRefusal r
+unfolding does hit
+status-told (wrapsCommand side c) r q m = sym (no-status r (lacks-13 _ r refl m))
+status-told (unwrapsCommand side c) r q m = sym (no-status r (lacks-13 _ r refl m))
+status-told (wrapsResponse side c) r q m = sym (no-status r (lacks-13 _ r refl m))
+status-told (unwrapsResponse side c) r q m = c .met .1 .1 .0 ∙ ap (λ (a : Answer Response). responseValues (responseAnswer a) .status) q
+status-told (closes side c) r q m = sym (no-status r (lacks-13 _ r refl m))
 
 le-none : (e : Event) (r : Refusal) → served e .answer ≡ refused r → le e ≡ false
 unfolding does
@@ -111,9 +130,12 @@ refusal-keeps e nonzero =
     let n : number e ≡ numberOfRefusal (x .0) = number-told e ∙ ap numberOf (x .1) in
     let k = served-keeps (held e) (len e) (call e) (held-bytes e) (x .0) (before e) (x .1) in
     record {
+      refusal = x .0;
+      refuses = x .1;
       in-order = subst (λ (i : ℕ). List·Memᴰ i (16 ∷ order (call e))) (sym n) (k .in-order);
-      no-length = λ h. written-none e (x .0) (x .1) (λ z. h (n ∙ z));
-      no-status = λ h. status-none e (x .0) (x .1) (λ z. h (n ∙ z));
+      number-is = n;
+      length-is = length-told e (x .0) (x .1) (k .in-order);
+      status-is = status-told e (x .0) (x .1) (k .in-order);
       no-le = le-none e (x .0) (x .1);
       output = output-told e ∙ k .output;
       closed = λ h.
@@ -124,6 +146,56 @@ refusal-keeps e nonzero =
   where
     Nine : ℕ → Type 0
     Nine i = (i ≡ 9) ⊎ (i ≡ 10)
+
+-- ---- 16 exactly where no session can be read
+
+pub sixteen-exactly : SixteenExactly
+unfolding servedBy
+sixteen-exactly e = (λ n. go (d .answer) refl n, λ u. number-told e ∙ ap (λ a. numberOf (servedBy a (held e) (len e) (does aesCiphers (d .session) (call e)) .answer)) u)
+  where
+    d : Decoded
+    d = sessionIn (held e) (len e)
+
+    zero-is-not-16 : _≡_ {A = ℕ} 0 16 → ⊥
+    zero-is-not-16 z = omega (arith, z)
+
+    go : (a : Decoding) → d .answer ≡ a → number e ≡ 16 → d .answer ≡ Unread BadSession
+    go (Unread q) told n = told ∙ ap Unread (read-16 (held e) (len e) q told)
+    go Done told n =
+        let x = refused-is (served e .answer) (λ z. zero-is-not-16 (sym (number-told e ∙ z) ∙ n)) in
+        let m : numberOfRefusal (x .0) ≡ 16 = sym (ap numberOf (x .1)) ∙ sym (number-told e) ∙ n in
+        let f = demand1 (d .session) (call e) (x .0) [] (sym (ap (λ a. servedBy a (held e) (len e) (does aesCiphers (d .session) (call e)) .answer) told) ∙ x .1) .in-order in
+        absurd (lacks-16 (call e) (subst (λ (i : ℕ). List·Memᴰ i (order (call e))) m f))
+
+-- ---- what is not written stays
+
+rest : (xs ys : Bytes) (n : ℕ) → n ≡ length ys → drop n (over xs ys) ≡ drop n xs
+unfolding over
+rest xs ys n e = drop-at ys (drop (length ys) xs) n (sym e) ∙ ap (λ (i : ℕ). drop i xs) (sym e)
+
+not-refused : {A : Type 0} (a : Answer A) → numberOf a ≡ 0 → (x : A) × (a ≡ gave x)
+not-refused (refused r) e = let n = number-suc r in let o : ⊥ = omega (arith, n .1, e) in absurd o
+not-refused (gave x) e = (x, refl)
+
+pub rest-keeps : RestKeeps
+unfolding does buffer
+rest-keeps (wrapsCommand side c) z =
+    let x = not-refused (served (wrapsCommand side c) .answer) (sym (number-told (wrapsCommand side c)) ∙ z) in
+    ap (drop (written (wrapsCommand side c))) (output-told (wrapsCommand side c) ∙ ap (buffer (λ (f : Bytes). f) _) (x .1))
+    ∙ rest _ (x .0) _ (c .met .1 .0 ∙ ap (λ (a : Answer Bytes). wrapValues (wrapAnswer a) .len) (x .1))
+rest-keeps (unwrapsCommand side c) z =
+    let x = not-refused (served (unwrapsCommand side c) .answer) (sym (number-told (unwrapsCommand side c)) ∙ z) in
+    ap (drop (written (unwrapsCommand side c))) (output-told (unwrapsCommand side c) ∙ ap (buffer (λ (g : CommandGiven). g .payload) _) (x .1))
+    ∙ rest _ (x .0 .payload) _ (c .met .1 .0 ∙ ap (λ (a : Answer CommandGiven). commandValues (commandAnswer a) .len) (x .1))
+rest-keeps (wrapsResponse side c) z =
+    let x = not-refused (served (wrapsResponse side c) .answer) (sym (number-told (wrapsResponse side c)) ∙ z) in
+    ap (drop (written (wrapsResponse side c))) (output-told (wrapsResponse side c) ∙ ap (buffer (λ (f : Bytes). f) _) (x .1))
+    ∙ rest _ (x .0) _ (c .met .1 .0 ∙ ap (λ (a : Answer Bytes). wrapValues (wrapAnswer a) .len) (x .1))
+rest-keeps (unwrapsResponse side c) z =
+    let x = not-refused (served (unwrapsResponse side c) .answer) (sym (number-told (unwrapsResponse side c)) ∙ z) in
+    ap (drop (written (unwrapsResponse side c))) (output-told (unwrapsResponse side c) ∙ ap (buffer (λ (m : Response). m .payload) _) (x .1))
+    ∙ rest _ (x .0 .payload) _ (c .met .1 .0 ∙ ap (λ (a : Answer Response). responseValues (responseAnswer a) .len) (x .1))
+rest-keeps (closes side c) z = refl
 
 -- ---- openings
 
@@ -151,7 +223,7 @@ suite-among side (Known suite) k room = go (keysFit (keyLength suite) k)
     s : Session
     s = fresh side suite (stored (k .enc)) (stored (k .mac)) (stored (k .rmac))
 
-    go : (fit : Bool) → Among (bytesOf (if fit then record { answer = Done; session = s } else notOpened side BadKeyLength) room)
+    go : (fit : Bool) → Among (bytesOf (if fit then record { answer = IsOpen; session = s } else notOpened side BadKeyLength) room)
     go true = bytes-among (encode s) room
     go false = among BadKeyLength (List·Memᴰ·tail (List·Memᴰ·head refl))
 suite-among side Unknown k room = among UnknownSuite (List·Memᴰ·head refl)

@@ -27,7 +27,7 @@ use Rattle.protocol.specs.Agreement.{Agrees, BreaksIn, Excepted as ExceptedRun,
 use Rattle.protocol.proofs.Theorems.{demand3}
 use Rattle.capi_open.specs.OpenOn.{openOn}
 use Rattle.capi_demands.specs.Calls.{OpensHost, OpensCard, hostKeys, cardKeys, hostBytes, cardBytes, Event, wrapsCommand, unwrapsCommand, wrapsResponse, unwrapsResponse, closes, end, held, len, call, answer}
-use Rattle.capi_demands.specs.Agreement.{End, State as Ends, at, moved as movedEnd, after, ran, Trace, Excepted, Served, start as startEnds, Agreement}
+use Rattle.capi_demands.specs.Agreement.{End, State as Ends, at, moved as movedEnd, after, ran, Trace, Excepted, Served, start as startEnds, Agreement, ExceptionNoWider}
 use Rattle.capi_demands.proofs.OpenedBytes.{IsOpened, opened-is, opening-lengths, left-by-opening}
 use Rattle.capi_demands.proofs.Step.{Good, good-next, not-16, one-if-closed, same-answer}
 
@@ -119,6 +119,18 @@ module _ (K : Keys) where
         go (inl q) c = absurd (subst (BreaksIn aesCiphers K (st .transcript) (call e)) (q .1) c)
         go (inr q) c = subst (BreaksIn aesCiphers K (st .transcript) (call e)) (sym q) c
 
+    breaks-back : BreaksIn aesCiphers K (st .transcript) (call e) (answer e)
+        → BreaksIn aesCiphers K (ds .transcript) (call e) (does aesCiphers (sessionAt ds (sideOf (call e))) (call e) .answer)
+    breaks-back b =
+        let c = go (same-answer e (at st (end e)) s good handed long) b in
+        subst (λ (side : Side). BreaksIn aesCiphers K (ds .transcript) (call e) (does aesCiphers (sessionAt ds side) (call e) .answer)) (sym (side-is e))
+        (subst (λ (t : Transcript). BreaksIn aesCiphers K t (call e) (out .answer)) (m .log) c)
+      where
+        go : ((r : Refusal) × (out .answer ≡ refused r) × (answer e ≡ refused BadSession)) ⊎ (answer e ≡ out .answer)
+            → BreaksIn aesCiphers K (st .transcript) (call e) (answer e) → BreaksIn aesCiphers K (st .transcript) (call e) (out .answer)
+        go (inl q) c = absurd (subst (BreaksIn aesCiphers K (st .transcript) (call e)) (q .2) c)
+        go (inr q) c = subst (BreaksIn aesCiphers K (st .transcript) (call e)) q c
+
   serves : (st : Ends) (ds : State) → Match st ds → (es : List Event) → Trace K st es → Served K st es
   serves st ds m [] t = tt
   serves st ds m (e ∷ es) t =
@@ -137,6 +149,12 @@ module _ (K : Keys) where
   excepted-is st ds m [] t x = x
   excepted-is st ds m (e ∷ es) t (inl b) = inl (breaks-same st ds m e (t .0) (t .1) b)
   excepted-is st ds m (e ∷ es) t (inr x) = inr (excepted-is (after K st e) (step aesCiphers K ds (call e)) (match-step st ds m e (t .0) (t .1)) es (t .2) x)
+
+  excepted-back : (st : Ends) (ds : State) → Match st ds → (es : List Event) → Trace K st es → Excepted K st es → ExceptedRun aesCiphers K ds (calls es)
+  excepted-back st ds m [] t x = x
+  excepted-back st ds m (e ∷ es) t (inl b) = inl (breaks-back st ds m e (t .0) (t .1) b)
+  excepted-back st ds m (e ∷ es) t (inr x) =
+      inr (excepted-back (after K st e) (step aesCiphers K ds (call e)) (match-step st ds m e (t .0) (t .1)) es (t .2) x)
 
   take-trace : (n : ℕ) (st : Ends) (es : List Event) → Trace K st es → Trace K st (take n es)
   take-trace zero st es t = tt
@@ -207,3 +225,7 @@ module _ (h : OpensHost) (c : OpensCard) (hostOpened : h .number ≡ 0) (cardOpe
 pub agreement : Agreement
 agreement h c hostOpened cardOpened same es t =
     (serves (hostKeys h) _ (begins h c hostOpened cardOpened same) (match-start h c hostOpened cardOpened same) es t, agrees h c hostOpened cardOpened same es t)
+
+pub exception-no-wider : ExceptionNoWider
+exception-no-wider h c hostOpened cardOpened same es t x =
+    excepted-back (hostKeys h) _ (begins h c hostOpened cardOpened same) (match-start h c hostOpened cardOpened same) es t x

@@ -92,7 +92,7 @@ pub record Good (x : End) (s : Session) : Type 0 where
   pub lengths : Lengths s
   pub open-is : x .closed ≡ false → countsAsOpen s ≡ true
 
-lacks-16 : (c : Call) → List·Memᴰ 16 (order c) → ⊥
+pub lacks-16 : (c : Call) → List·Memᴰ 16 (order c) → ⊥
 unfolding hit
 lacks-16 (wrapCommand side m room) d = let z : false ≡ true = met 16 _ d in never (cc)
 lacks-16 (unwrapCommand side ins p1 p2 field room) d = let z : false ≡ true = met 16 _ d in never (cc)

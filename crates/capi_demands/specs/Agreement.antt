@@ -3,21 +3,24 @@
 -- closed. Each call gets the session that the call before it at its end, at first the opening, left. Whatever bytes the line hands them, after
 -- every call, with w commands wrapped, a accepted, s responses wrapped and r accepted, r ≤ s ≤ a ≤ w ≤ r + 1. Each accepted command gave the
 -- data, header and Le (or its absence), and each accepted response the data and status, that the other end wrapped at the same place in the
--- order. This may cease only where …" (protocol, specs/Agreement). Assumes nothing.
+-- order. This may cease only where that call or an earlier one was an acceptance whose '8E' holds the first 8 bytes of its MAC input's whole MAC,
+-- and either that input is one that the sender had not yet MACed in that direction, or two of the sender's whole chaining values so far in that
+-- direction, the zero start included, are equal." Assumes nothing.
 use mathlib.Core.Path.{_≡_}
 use mathlib.Core.Bool.{Bool, true, false, _||_}
 use mathlib.Core.Logic.{_⊎_}
-use mathlib.Core.List.{List, [], _∷_}
+use mathlib.Core.List.{List, [], _∷_, map}
 use Prim.Native.Nat.{ℕ}
 use lib.Dec.{eqb}
 use lib.ListN.{length, take}
 use Rattle.octets.specs.Bytes.{Bytes}
 use Rattle.stored_keys.specs.StoredKeys.{Keys}
+use Rattle.session.specs.Opening.{opening}
 use Rattle.session.specs.declared.Side.{Side}
 use Rattle.session.specs.declared.Side.the-variants.{Host, Card}
 use Rattle.ciphers.specs.Aes.{aesCiphers}
-use Rattle.protocol.specs.Transcript.{Transcript, entered, empty}
-use Rattle.protocol.specs.Agreement.{Agrees, BreaksIn}
+use Rattle.protocol.specs.Transcript.{Transcript, entered, empty, start as startRun}
+use Rattle.protocol.specs.Agreement.{Agrees, BreaksIn, Excepted as ExceptedRun}
 use Rattle.capi_demands.specs.Calls.{OpensHost, OpensCard, hostKeys, cardKeys, hostBytes, cardBytes, Event, wrapsCommand, unwrapsCommand, wrapsResponse, unwrapsResponse, closes, end, held, len, heldAfter, lenAfter, number, call, answer}
 
 -- an end: the bytes of its session, and whether a call has closed it
@@ -84,3 +87,11 @@ Agreement =
     → let K = hostKeys h in let st = start (hostBytes h) (cardBytes c) in
     (calls : List Event) → Trace K st calls
     → Served K st calls × ((n : ℕ) → Agrees aesCiphers K (ran K st (take n calls) .transcript) ⊎ Excepted K st (take n calls))
+
+-- this exception is no wider than that of the definitions, which computed runs hold to what it should be (protocol, proofs/Examples)
+abbrev pub ExceptionNoWider : Type 0
+ExceptionNoWider =
+    (h : OpensHost) (c : OpensCard) → h .number ≡ 0 → c .number ≡ 0 → cardKeys c ≡ hostKeys h
+    → let K = hostKeys h in let st = start (hostBytes h) (cardBytes c) in
+    (calls : List Event) → Trace K st calls → Excepted K st calls
+    → ExceptedRun aesCiphers K (startRun (opening Host (h .args .0) K .session) (opening Card (c .args .0) K .session)) (map call calls)

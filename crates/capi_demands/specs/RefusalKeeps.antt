@@ -4,17 +4,29 @@
 -- writes through pointers are part of its answer. Assumes nothing.
 use mathlib.Core.Path.{_≡_}
 use mathlib.Core.Bool.{false}
-use mathlib.Core.Logic.{_⊎_}
+use mathlib.Core.Logic.{_⊎_, _↔_}
 use mathlib.Core.List.{[], _∷_, List·Memᴰ}
 use Prim.Native.Nat.{ℕ}
+use lib.ListN.{drop}
 use denote.Ref.{now}
 use Rattle.octets.specs.Bytes.{Bytes}
 use Rattle.octets.specs.Write.{over}
+use Rattle.refusal.specs.Refusal.{number as numberOf, size, status as statusOf}
+use Rattle.refusal.specs.declared.Refusal.{Refusal}
+use Rattle.refusal.specs.declared.Refusal.the-variants.{BadSession}
 use Rattle.session.specs.declared.Session.{Session}
 use Rattle.saved.specs.Saved.{encode}
+use Rattle.saved.specs.declared.Decoding.the-variants.{Refused as Unread}
+use Rattle.ciphers.specs.Aes.{aesCiphers}
+use Rattle.protocol.specs.Answer.{Answer, refused}
 use Rattle.protocol.specs.RefusalKeeps.{order, IsClosed}
-use Rattle.session_bytes.specs.SessionBytes.{sessionIn}
+use Rattle.protocol.specs.Transcript.{Gives, does}
+use Rattle.session_bytes.specs.SessionBytes.{sessionIn, onSession}
 use Rattle.capi_demands.specs.Calls.{OpensHost, OpensCard, Event, held, len, heldAfter, lenAfter, before, after, number, written, status, le, call}
+
+-- what the definition answers at the bytes that were handed in
+abbrev pub answerOf : (e : Event) → Answer (Gives (call e))
+answerOf e = onSession (held e) (len e) (λ s. does aesCiphers s (call e)) .answer
 
 -- the bytes of the session that was read, closed
 pub record ClosedIn (e : Event) : Type 0 where
@@ -24,9 +36,13 @@ pub record ClosedIn (e : Event) : Type 0 where
   pub length : lenAfter e ≡ 138
 
 pub record Keeps (e : Event) : Type 0 where
+  pub refusal : Refusal
+  pub refuses : answerOf e ≡ refused refusal
   pub in-order : List·Memᴰ (number e) (16 ∷ order (call e))
-  pub no-length : (number e ≡ 6 → ⊥) → written e ≡ 0
-  pub no-status : (number e ≡ 13 → ⊥) → status e ≡ 0
+  -- the number; length 0 but for the length needed; no status but at 13
+  pub number-is : number e ≡ numberOf refusal
+  pub length-is : written e ≡ size refusal
+  pub status-is : status e ≡ statusOf refusal
   pub no-le : le e ≡ false
   pub output : after e ≡ before e
   pub closed : (number e ≡ 9) ⊎ (number e ≡ 10) → ClosedIn e
@@ -35,6 +51,14 @@ pub record Keeps (e : Event) : Type 0 where
 -- every call, with all bytes and all lengths
 abbrev pub RefusalKeeps : Type 0
 RefusalKeeps = (e : Event) → (number e ≡ 0 → ⊥) → Keeps e
+
+-- 16 comes before all else: exactly where no session can be read
+abbrev pub SixteenExactly : Type 0
+SixteenExactly = (e : Event) → (number e ≡ 16) ↔ (sessionIn (held e) (len e) .answer ≡ Unread BadSession)
+
+-- document 01: "An answer that isn't a refusal leaves a lent output's bytes past what it writes as they were."
+abbrev pub RestKeeps : Type 0
+RestKeeps = (e : Event) → number e ≡ 0 → drop (written e) (after e) ≡ drop (written e) (before e)
 
 -- a refused opening leaves the buffer as it was: 11 and 12, and 6 where there is no room for the session
 abbrev pub Refuses : ℕ → (len : ℕ) → (before after : Bytes) → Type 0
