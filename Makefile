@@ -118,12 +118,14 @@ $(PRINTED:%=build/%) $(addprefix build/,vectors differential differential_saniti
 # rt knows what is already proved, as after rt ci. Each crate's archive is one object, with its exported calls alone; rt makes it on one processor, and two rt in one
 # tree are in each other's way, so a second tree has half of them.
 archives = for crate in $(1); do rt staticlib $$crate >target/log/archive 2>&1 || { cat target/log/archive; exit 1; }; done
+FIRST = $(wordlist 1,4,$(CALLS))
+SECOND = $(filter-out $(FIRST),$(CALLS))
 
 build/libpivsm.a: $(CODE) | packages build
 	@rt check $(CALLS)
 	@rm -rf target/second && mkdir -p target/second/target && cp -r crates crates.txt target/second && cp -r target/rlib target/stamp target/log target/second/target
-	@( $(call archives,$(wordlist 1,4,$(CALLS))) ) & half=$$!; ( cd target/second && $(call archives,$(wordlist 5,99,$(CALLS))) ) && wait $$half
-	@cd build && for crate in $(CALLS); do ar x $$(ls ../target/staticlib/lib$$crate.a ../target/second/target/staticlib/lib$$crate.a 2>/dev/null) || exit 1; done
+	@( $(call archives,$(FIRST)) ) & half=$$!; ( cd target/second && $(call archives,$(SECOND)) ) && wait $$half
+	@cd build && for archive in $(FIRST:%=../target/staticlib/lib%.a) $(SECOND:%=../target/second/target/staticlib/lib%.a); do ar x $$archive || exit 1; done
 	@rm -rf $@ target/second
 	@ar rcs $@ $(CALLS:%=build/%.o)
 
