@@ -44,7 +44,7 @@
  *
  * NOT PROMISED. AES works by table look-ups, so time and cache behaviour tell of keys and data to those who can
  * measure them. Who puts back old session bytes is not noticed. A MAC has 8 bytes, as the standard wants it. A call
- * takes up to 40 KB of stack. Not here: key agreement, certificates, PINs,
+ * takes up to 24 KB of stack. Not here: key agreement, certificates, PINs,
  * extended-length APDUs, the protection of sessions at rest.
  */
 #ifndef PIVSM_H
