@@ -3,7 +3,6 @@
 # make install       libpivsm.a, pivsm.h and pivsm.pc, under PREFIX, put below DESTDIR
 # make differential  the library beside a second implementation over OpenSSL: CASES cases of SEED
 # make mutants       whether that comparison notices 222 mistakes
-# make edits         the proofs and every wrong program, those of edits/ too: rt ci on a copy
 # make bench         speed beside plain C and other libraries
 #
 # Needs Rattle's rt on the PATH. gcc and the libraries' headers are installed where they are missing.
@@ -34,12 +33,6 @@ gate: build
 	@rm -f build/status
 	@{ RT_JOBS=4 rt ci; echo $$? >build/status; } | tee build/gate
 	@test "$$(cat build/status)" = 0
-
-# The gate tries the wrong programs of each crate's must-fail/; edits/CRATE/ has more of them, which take as long again.
-edits:
-	@rm -rf target/edits && mkdir -p target/edits && cp -r crates crates.txt target/edits
-	@for crate in $$(ls edits); do cp edits/$$crate/*.edit target/edits/crates/$$crate/must-fail/; done
-	@cd target/edits && RT_JOBS=4 rt ci
 
 # tables.rt stands 16 to a row, as in the standard; the formatter would put each entry on its own line.
 format: build
@@ -149,5 +142,5 @@ installed = printf '\#include <%s>\n' $(1) | g++ -x c++ -E - >/dev/null 2>&1 || 
 build:
 	@mkdir -p build
 
-.PHONY: test gate edits format demo install header vectors differential sanitized mutants printed compare bench packages bench-packages
+.PHONY: test gate format demo install header vectors differential sanitized mutants printed compare bench packages bench-packages
 .NOTPARALLEL:
