@@ -25,7 +25,7 @@ DIFFERENTIAL = $(filter-out %/vectors.c,$(wildcard c/differential/*.c)) c/refere
 HEADERS = $(wildcard c/*.h c/differential/*.h)
 CODE = crates.txt $(shell find crates -name '*.rt')
 
-test: format gate header vectors differential sanitized printed compare
+test: format gate programs
 	@tail -n 1 build/gate
 
 # Four at a time: rt waits for the slowest of those that it starts together, and each runs on one processor.
@@ -47,6 +47,10 @@ install: build/libpivsm.a
 	@install -m 644 c/pivsm.h $(DESTDIR)$(PREFIX)/include
 	@install -m 644 build/libpivsm.a $(DESTDIR)$(PREFIX)/lib
 	@sed 's|@PREFIX@|$(PREFIX)|; s|@VERSION@|$(VERSION)|' c/pivsm.pc.in >$(DESTDIR)$(PREFIX)/lib/pkgconfig/pivsm.pc
+
+# Two at a time, over archives that are there.
+programs: build/libpivsm.a build/libprimitives.a
+	@$(MAKE) -s -j2 -Otarget PARALLEL=yes header vectors differential sanitized printed compare
 
 header: build/libpivsm.a
 	@c/header_test.sh build/libpivsm.a
@@ -142,5 +146,7 @@ installed = printf '\#include <%s>\n' $(1) | g++ -x c++ -E - >/dev/null 2>&1 || 
 build:
 	@mkdir -p build
 
-.PHONY: test gate format demo install header vectors differential sanitized mutants printed compare bench packages bench-packages
+.PHONY: test gate format programs demo install header vectors differential sanitized mutants printed compare bench packages bench-packages
+ifndef PARALLEL
 .NOTPARALLEL:
+endif

@@ -9,7 +9,7 @@ use Rattle.fields.specs.declared.Objects.{Objects}
 use Rattle.stored_keys.specs.StoredKeys.{keyIn}
 use Rattle.session.specs.declared.Session.{Session}
 use Rattle.ciphers.specs.Aes.{aesCiphers}
-use Rattle.protocol.specs.Answer.{gave, _and-then_}
+use Rattle.answers.specs.Answer.{gave, _and-then_}
 use Rattle.protocol.specs.Command.{headerRead, commandMac, commandAccepted, openCommand}
 use Rattle.verified_text.specs.VerifiedText.{verifiedText}
 use Rattle.verified_text.proofs.Opened.{stages-first}

@@ -15,8 +15,8 @@ ghost use Prim.Native.Nat.{_<_};
 ghost use lib.ListN.{length};
 ghost use Rattle.fields.specs.Field.{readField};
 ghost use Rattle.ciphers.specs.Aes.{aesCiphers};
-ghost use Rattle.protocol.specs.Permission.{commandWanted};
-ghost use Rattle.protocol.specs.Answer.{concluded, buffer};
+ghost use Rattle.permission.specs.Permission.{commandWanted};
+ghost use Rattle.answers.specs.Answer.{concluded, buffer};
 ghost use Rattle.protocol.specs.Command.{openCommand};
 ghost use Rattle.results.specs.Results.{commandResult};
 

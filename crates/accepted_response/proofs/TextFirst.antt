@@ -9,8 +9,8 @@ use Rattle.fields.specs.declared.Objects.{Objects}
 use Rattle.stored_keys.specs.StoredKeys.{keyIn}
 use Rattle.session.specs.declared.Session.{Session}
 use Rattle.ciphers.specs.Aes.{aesCiphers}
-use Rattle.protocol.specs.Message.{status}
-use Rattle.protocol.specs.Answer.{gave, _and-then_}
+use Rattle.answers.specs.Message.{status}
+use Rattle.answers.specs.Answer.{gave, _and-then_}
 use Rattle.protocol.specs.Response.{responseMac, responseAccepted, openResponse}
 use Rattle.verified_text.specs.VerifiedText.{verifiedText}
 use Rattle.verified_text.proofs.Opened.{stages-first}

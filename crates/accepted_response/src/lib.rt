@@ -15,9 +15,9 @@ ghost use Prim.Native.Nat.{_≤_};
 ghost use lib.ListN.{length};
 ghost use Rattle.fields.specs.Field.{readField};
 ghost use Rattle.ciphers.specs.Aes.{aesCiphers};
-ghost use Rattle.protocol.specs.Message.{status};
-ghost use Rattle.protocol.specs.Permission.{responseWanted};
-ghost use Rattle.protocol.specs.Answer.{concluded, buffer};
+ghost use Rattle.answers.specs.Message.{status};
+ghost use Rattle.permission.specs.Permission.{responseWanted};
+ghost use Rattle.answers.specs.Answer.{concluded, buffer};
 ghost use Rattle.protocol.specs.Response.{openResponse};
 ghost use Rattle.results.specs.Results.{responseResult};
 

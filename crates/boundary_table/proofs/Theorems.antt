@@ -1,7 +1,6 @@
 -- The lines of the table hold: the checker computes them.
 -- Assumes nothing.
 use mathlib.Core.Path.{refl}
-use Rattle.octets.specs.Choice.{if_then_else_}
 use Rattle.padding.specs.Padding.{paddedLength}
 use Rattle.tlv.specs.Length.{lengthField}
 use Rattle.field_lengths.specs.Lengths.{ciphertextLength, encryptedDataLength, commandLength, responseLength}

@@ -2,7 +2,7 @@
 use Prim.Native.Nat.{ℕ}
 use Rattle.octets.specs.Bytes.{Bytes}
 use Rattle.session.specs.Session.{closed}
-use Rattle.protocol.specs.Answer.{Answer, refused, gave}
+use Rattle.answers.specs.Answer.{Answer, refused, gave}
 use Rattle.values.specs.Values.{given, refusalValues}
 use Rattle.values.specs.declared.Values.{Values}
 use Rattle.session_bytes.specs.SessionBytes.{Served, onSession}

@@ -1,13 +1,13 @@
 -- The calls of c/pivsm.h on command chaining. A chain is one number for a program in C; 0 is the empty chain. Assumes nothing.
 use Prim.Native.Nat.{ℕ, _+_, _*_, _/_, _%_}
 use Rattle.octets.specs.Bytes.{Bytes}
-use Rattle.protocol.specs.Answer.{Answer}
+use Rattle.answers.specs.Answer.{Answer}
 use Rattle.command_chaining.specs.Apdu.{header}
 use Rattle.command_chaining.specs.Fragment.{fragmentCommand, fragmentAnswer}
 use Rattle.command_chaining.specs.Reassembly.{reassembleCommand}
 use Rattle.command_chaining.specs.declared.CommandChain.{CommandChain}
 use Rattle.command_chaining.specs.declared.Reassembly.{Reassembly}
-use Rattle.values.specs.Values.{fragmentValues}
+use Rattle.chaining_values.specs.ChainingValues.{fragmentValues}
 use Rattle.values.specs.declared.Values.{Values}
 
 -- the length, and INS, P1 and P2

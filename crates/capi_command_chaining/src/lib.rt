@@ -1,15 +1,15 @@
 // Command chaining for programs in C (c/pivsm.h).
+use chaining_values::fragment_values;
+use chaining_values::reassembly_values;
 use command_chaining::CommandChain;
 use fragment_command::fragment_command;
 use reassemble_command::reassemble_command;
-use values::fragment_values;
-use values::reassembly_values;
 ghost use mathlib.Core.Path.{_≡_};
 ghost use Prim.Native.Nat.{_≤_};
 ghost use lib.ListN.{length};
-ghost use Rattle.protocol.specs.Answer.{buffer};
+ghost use Rattle.answers.specs.Answer.{buffer};
 ghost use Rattle.command_chaining.specs.Reassembly.{reassemblyBuffer};
-ghost use Rattle.values.specs.Values.{reassemblyValues};
+ghost use Rattle.chaining_values.specs.ChainingValues.{reassemblyValues};
 ghost use Rattle.capi_command_chaining.specs.CommandChains.{chainNumber, chainOf, fragmentOf, fragmentGives, reassembleOn};
 
 fn chain_of(n: u64) -> CommandChain

@@ -8,9 +8,8 @@ use borrow.Fn.Kinds.{Dens}
 use Rattle.octets.specs.Bytes.{Bytes, IsBytes}
 use Rattle.stored_keys.specs.StoredKeys.{KeysOfBytes, keys}
 use Rattle.session.specs.declared.Side.the-variants.{Host, Card}
-use Rattle.protocol.specs.Message.{Response}
-use Rattle.protocol.specs.Answer.{buffer}
-use Rattle.protocol.specs.Command.{CommandGiven}
+use Rattle.answers.specs.Message.{Response, CommandGiven}
+use Rattle.answers.specs.Answer.{buffer}
 use Rattle.capi_open.proofs.pivsm_open_host.Kinds as open-host-kinds
 use Rattle.capi_open.proofs.pivsm_open_card.Kinds as open-card-kinds
 use Rattle.capi_close.proofs.pivsm_close.Kinds as close-kinds

@@ -1,16 +1,15 @@
 -- The bytes that a call leaves are read by the next one as the session that it left. Assumes nothing.
-use mathlib.Core.Path.{_≡_, refl, sym, ap, subst, _∙_}
+use mathlib.Core.Path.{_≡_, sym, ap, subst, _∙_}
 use mathlib.Core.Bool.{true}
-use mathlib.Core.List.{[], _++_}
+use mathlib.Core.List.{_++_}
 use Prim.Native.Nat.{ℕ, _+_, _<_, _≤_}
 use native.Mathlib.Omega.{arith}
 use borrow.Author.Tests.{le-leb}
-use lib.Dec.{leb}
-use lib.ListN.{length, take, drop, getD, length-take, length-append, List·getD-append, take-append-drop}
+use lib.ListN.{length, take, drop, length-take, length-append, List·getD-append, take-append-drop}
 use lib.Seq.{take-at, getD-append-add}
 use Rattle.octets.specs.Bytes.{Bytes, IsBytes}
 use Rattle.octets.specs.Write.{over}
-use Rattle.session.specs.Arrays.{Block, Arrays}
+use Rattle.session.specs.Arrays.{Arrays}
 use Rattle.session.specs.declared.Session.{Session}
 use Rattle.validity.specs.Valid.{valid}
 use Rattle.saved.specs.Saved.{header, keys, mcvs, encode, decodedTo, decode}

@@ -1,13 +1,11 @@
 -- An open session is not answered 1, and stays open where it is served. Assumes nothing.
-use mathlib.Core.Path.{_≡_, refl, ap, subst}
+use mathlib.Core.Path.{_≡_, refl, subst}
 use mathlib.Core.Bool.{Bool, true, false, _||_}
 use mathlib.Core.List.{List, [], _∷_, List·Memᴰ, List·Memᴰ·head, List·Memᴰ·tail}
 use Prim.Native.Nat.{ℕ}
 use native.Mathlib.Omega.{arith}
 use borrow.Author.Tests.{eq-eqb}
 use lib.Dec.{eqb}
-use Rattle.octets.specs.Bytes.{Bytes}
-use Rattle.octets.specs.Choice.{if_then_else_}
 use Rattle.refusal.specs.Refusal.{number}
 use Rattle.refusal.specs.declared.Refusal.{Refusal}
 use Rattle.session.specs.declared.Side.the-variants.{Host, Card}
@@ -16,10 +14,10 @@ use Rattle.session.specs.declared.Session.{Session}
 use Rattle.validity.specs.Valid.{countsAsOpen}
 use Rattle.validity.proofs.KeepsTheRules.{command-served, response-served}
 use Rattle.ciphers.specs.Ciphers.{Ciphers}
-use Rattle.protocol.specs.Answer.{Answer, refused, gave, require_else_⨾_, Out}
+use Rattle.answers.specs.Answer.{Answer, refused, gave, require_else_⨾_, Out}
 use Rattle.protocol.specs.Command.{wrapCommandChecks, unwrapCommandChecks, commandWrapped, commandAccepted, hostWraps, openCommand, cardUnwraps}
 use Rattle.protocol.specs.Response.{wrapResponseChecks, unwrapResponseChecks, responseWrapped, responseAccepted, cardWraps, openResponse, hostUnwraps}
-use Rattle.protocol.specs.Transcript.{Call, wrapCommand, unwrapCommand, wrapResponse, unwrapResponse, close, Gives, does}
+use Rattle.protocol.specs.Transcript.{Call, wrapCommand, unwrapCommand, wrapResponse, unwrapResponse, close, does}
 use Rattle.protocol.proofs.CallCases.{turn-is, host-wraps, card-wraps, card-unwraps, host-unwraps}
 use Rattle.protocol.proofs.Refused.{Among, require-among, then-among, gave-among, concluded-among, objects-among, text-among}
 

@@ -1,8 +1,7 @@
 -- An opening that was not refused leaves the bytes of a session that is open. Assumes nothing.
 use mathlib.Core.Path.{_≡_, refl, sym, ap, _∙_}
 use mathlib.Core.Bool.{Bool, true, false}
-use mathlib.Core.List.{_++_}
-use Prim.Native.Nat.{ℕ, suc, _+_, _-_}
+use Prim.Native.Nat.{ℕ, suc, _-_}
 use native.Mathlib.Omega.{arith}
 use lib.Dec.{leb}
 use lib.ListN.{length, take, drop, length-append, length-replicate}
@@ -22,14 +21,13 @@ use Rattle.stored_keys.proofs.StoredKeys.{key-length-most, fitting}
 use Rattle.session.specs.Opening.{openSuite, opening}
 use Rattle.session.specs.declared.Side.{Side}
 use Rattle.session.specs.declared.Session.{Session}
-use Rattle.session.specs.declared.Opened.{Opened}
 use Rattle.session.specs.declared.Opening.{Opening}
 use Rattle.session.specs.declared.Opening.the-variants.{Opened as Done, Refused}
 use Rattle.saved.specs.Saved.{encode}
-use Rattle.protocol.specs.Answer.{Answer, refused, gave, require_else_⨾_, buffer}
+use Rattle.answers.specs.Answer.{Answer, refused, gave, require_else_⨾_, buffer}
 use Rattle.results.specs.Results.{wrapAnswer}
 use Rattle.values.specs.Values.{wrapValues}
-use Rattle.capi_open.specs.OpenOn.{openedAs, openOn}
+use Rattle.capi_open.specs.OpenOn.{openedAs}
 use Rattle.capi_demands.proofs.SessionLengths.{Lengths}
 
 never : {P : Type 0} → _≡_ {A = ℕ} 0 1 → P

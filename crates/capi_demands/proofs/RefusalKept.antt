@@ -24,18 +24,16 @@ use Rattle.session.specs.Opening.{notOpened, openSuite, opening}
 use Rattle.session.specs.declared.Side.{Side}
 use Rattle.session.specs.declared.Side.the-variants.{Host, Card}
 use Rattle.session.specs.declared.Session.{Session}
-use Rattle.session.specs.declared.Opened.{Opened}
 use Rattle.session.specs.declared.Opening.the-variants.{Opened as IsOpen}
 use Rattle.saved.specs.Saved.{encode}
 use Rattle.saved.specs.declared.Decoded.{Decoded}
 use Rattle.saved.specs.declared.Decoding.{Decoding}
 use Rattle.saved.specs.declared.Decoding.the-variants.{Decoded as Done, Refused as Unread}
 use Rattle.ciphers.specs.Aes.{aesCiphers}
-use Rattle.protocol.specs.Answer.{Answer, refused, gave, require_else_⨾_, buffer}
-use Rattle.protocol.specs.Command.{CommandGiven}
-use Rattle.protocol.specs.Message.{Response}
+use Rattle.answers.specs.Answer.{Answer, refused, gave, require_else_⨾_, buffer}
+use Rattle.answers.specs.Message.{CommandGiven, Response}
 use Rattle.protocol.specs.RefusalKeeps.{order}
-use Rattle.protocol.specs.Transcript.{Gives, does}
+use Rattle.protocol.specs.Transcript.{does}
 use Rattle.protocol.proofs.Theorems.{demand1}
 use Rattle.results.specs.Results.{wrapAnswer, commandAnswer, responseAnswer}
 use Rattle.values.specs.Values.{wrapValues, commandValues, responseValues}

@@ -1,6 +1,6 @@
 -- Demand 3 of the calls from C, from demand 3 of the definitions: a trace of session bytes is a run of sessions. Assumes nothing.
 use mathlib.Core.Path.{_≡_, refl, sym, ap, subst, _∙_}
-use mathlib.Core.Bool.{true, false}
+use mathlib.Core.Bool.{false}
 use mathlib.Core.Logic.{_⊎_, inl, inr}
 use mathlib.Core.List.{List, [], _∷_, map}
 use Prim.Native.Nat.{ℕ, zero, suc}
@@ -21,7 +21,7 @@ use Rattle.validity.specs.Valid.{valid, isOpen, countsAsOpen}
 use Rattle.validity.proofs.KeepsTheRules.{opening-served}
 use Rattle.saved.specs.Saved.{encode}
 use Rattle.ciphers.specs.Aes.{aesCiphers}
-use Rattle.protocol.specs.Answer.{Answer, refused, Out}
+use Rattle.answers.specs.Answer.{refused, Out}
 use Rattle.protocol.specs.Transcript.{Call, sideOf, Gives, does, Transcript, State, sessionAt, moved, entered, step, run, start}
 use Rattle.protocol.specs.Agreement.{Agrees, BreaksIn, Excepted as ExceptedRun, CallBytes, AllBytes}
 use Rattle.protocol.proofs.Theorems.{demand3}

@@ -1,12 +1,12 @@
 -- A call on session bytes is the call on the session that they hold; its refusals keep the bytes or close the session. Assumes nothing.
-use mathlib.Core.Path.{_≡_, refl, sym, ap, subst, _∙_}
+use mathlib.Core.Path.{_≡_, refl, sym, ap, _∙_}
 use mathlib.Core.Bool.{Bool, true, false}
 use mathlib.Core.Logic.{_⊎_, inl, inr}
-use mathlib.Core.List.{[], _∷_, _++_, List·Memᴰ, List·Memᴰ·head, List·Memᴰ·tail}
+use mathlib.Core.List.{_∷_, _++_, List·Memᴰ, List·Memᴰ·head, List·Memᴰ·tail}
 use Prim.Native.Nat.{ℕ, _≤_}
 use native.Mathlib.Omega.{arith}
 use borrow.Author.Tests.{leb-true}
-use lib.Dec.{eqb, leb}
+use lib.Dec.{leb}
 use lib.ListN.{length, getD, take, drop, length-take, take-append-drop}
 use Rattle.octets.specs.Bytes.{Bytes, IsBytes}
 use Rattle.octets.specs.Choice.{if_then_else_}
@@ -25,7 +25,7 @@ use Rattle.saved.specs.declared.Decoding.{Decoding}
 use Rattle.saved.specs.declared.Decoding.the-variants.{Decoded as Done, Refused}
 use Rattle.saved.proofs.EncodeDecode.{decoded-read, encode-decode}
 use Rattle.ciphers.specs.Aes.{aesCiphers}
-use Rattle.protocol.specs.Answer.{Answer, refused, gave, Out, buffer}
+use Rattle.answers.specs.Answer.{Answer, refused, Out, buffer}
 use Rattle.protocol.specs.RefusalKeeps.{order, writes, IsClosed}
 use Rattle.protocol.specs.Transcript.{Call, Gives, does}
 use Rattle.protocol.proofs.Theorems.{demand1}

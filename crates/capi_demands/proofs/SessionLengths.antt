@@ -1,6 +1,5 @@
 -- Every call keeps the lengths of a session's keys and chaining values: a full MAC has 16 bytes. Assumes nothing.
 use mathlib.Core.Path.{_≡_, refl}
-use Prim.Native.Nat.{ℕ}
 use lib.ListN.{length}
 use Rattle.octets.specs.Bytes.{Bytes}
 use Rattle.refusal.specs.declared.Refusal.{Refusal}
@@ -11,12 +10,12 @@ use Rattle.cmac.proofs.WholeMessage.{length-cmac}
 use Rattle.ciphers.specs.Aes.{sizeOf, ciph, aesCiphers}
 use Rattle.session.specs.Session.{closed}
 use Rattle.session.specs.declared.Session.{Session}
-use Rattle.protocol.specs.Answer.{Out, afterRefusal}
+use Rattle.answers.specs.Answer.{Out, afterRefusal}
 use Rattle.protocol.specs.Command.{commandMac, commandWrapped, commandAccepted}
 use Rattle.protocol.specs.Response.{responseMac, responseWrapped, responseAccepted}
 use Rattle.protocol.specs.Transcript.{Call, wrapCommand, unwrapCommand, wrapResponse, unwrapResponse, close, does}
 use Rattle.protocol.proofs.CallCases.{host-wraps, card-wraps, card-unwraps, host-unwraps}
-use Rattle.protocol.proofs.Invariant.{after-refusal}
+use Rattle.answers.proofs.Refusals.{after-refusal}
 
 pub record Lengths (s : Session) : Type 0 where
   pub enc : length (s .«sk_enc») ≡ 32

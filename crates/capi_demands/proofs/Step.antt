@@ -2,11 +2,9 @@
 use mathlib.Core.Path.{_≡_, refl, sym, ap, subst, _∙_}
 use mathlib.Core.Bool.{Bool, true, false, _||_}
 use mathlib.Core.Logic.{_⊎_, inl, inr}
-use mathlib.Core.List.{List, [], _∷_, List·Memᴰ}
-use Prim.Native.Nat.{ℕ, suc, _+_, _*_, _/_, _%_}
+use mathlib.Core.List.{[], List·Memᴰ}
+use Prim.Native.Nat.{ℕ, _/_, _%_}
 use native.Mathlib.Omega.{arith}
-use borrow.Author.Tests.{eqb-true, eq-eqb}
-use lib.Dec.{eqb}
 use lib.ListN.{length, take, drop}
 use lib.Seq.{take-at}
 use Rattle.octets.specs.Bytes.{Bytes}
@@ -19,9 +17,8 @@ use Rattle.validity.specs.Valid.{valid, countsAsOpen}
 use Rattle.saved.specs.Saved.{encode, decodedTo}
 use Rattle.saved.specs.declared.Decoded.{Decoded}
 use Rattle.ciphers.specs.Aes.{aesCiphers}
-use Rattle.protocol.specs.Message.{StatusWord, Response}
-use Rattle.protocol.specs.Answer.{Answer, refused, gave, Out, buffer}
-use Rattle.protocol.specs.Command.{CommandGiven}
+use Rattle.answers.specs.Message.{StatusWord, Response, CommandGiven}
+use Rattle.answers.specs.Answer.{Answer, refused, gave, Out, buffer}
 use Rattle.protocol.specs.Response.{responseAccepted, hostUnwraps}
 use Rattle.protocol.specs.RefusalKeeps.{order}
 use Rattle.protocol.specs.Transcript.{Call, wrapCommand, unwrapCommand, wrapResponse, unwrapResponse, close, Gives, does}

@@ -1,23 +1,19 @@
 -- What a call from C gave is what the definition gives at its arguments. Assumes nothing.
-use mathlib.Core.Path.{_≡_, refl, sym, ap, _∙_}
-use mathlib.Core.Bool.{Bool, false}
+use mathlib.Core.Path.{_≡_, refl, _∙_}
 use mathlib.Core.List.{[]}
 use Prim.Native.Nat.{ℕ}
-use lib.ListN.{length}
 use Rattle.octets.specs.Bytes.{Bytes, IsBytes}
 use Rattle.octets.specs.Write.{over}
-use Rattle.refusal.specs.Refusal.{number as numberOfRefusal, size, status as statusOfRefusal}
-use Rattle.refusal.specs.declared.Refusal.{Refusal}
-use Rattle.protocol.specs.Message.{Response}
-use Rattle.protocol.specs.Answer.{Answer, refused, gave, buffer}
-use Rattle.protocol.specs.Command.{CommandGiven}
+use Rattle.refusal.specs.Refusal.{number as numberOfRefusal}
+use Rattle.answers.specs.Message.{Response, CommandGiven}
+use Rattle.answers.specs.Answer.{Answer, refused, gave, buffer}
 use Rattle.protocol.specs.RefusalKeeps.{writes}
 use Rattle.protocol.specs.Transcript.{Gives, does}
 use Rattle.results.specs.Results.{wrapAnswer, commandAnswer, responseAnswer}
 use Rattle.values.specs.Values.{wrapValues, commandValues, responseValues}
 use Rattle.session_bytes.specs.SessionBytes.{Served}
 use Rattle.capi_close.specs.CloseOn.{closeValues}
-use Rattle.capi_demands.specs.Calls.{Event, wrapsCommand, unwrapsCommand, wrapsResponse, unwrapsResponse, closes, held, len, heldAfter, lenAfter, before, after, number, written, status, le, call}
+use Rattle.capi_demands.specs.Calls.{Event, wrapsCommand, unwrapsCommand, wrapsResponse, unwrapsResponse, closes, held, len, heldAfter, lenAfter, before, after, number, call}
 use Rattle.capi_demands.proofs.ServedCall.{servedCall}
 
 abbrev pub served : (e : Event) → Served (Gives (call e))

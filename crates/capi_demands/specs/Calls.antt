@@ -26,8 +26,7 @@ use Rattle.octets.specs.Bytes.{Bytes}
 use Rattle.refusal.specs.declared.Refusal.the-variants.{BadSession}
 use Rattle.stored_keys.specs.StoredKeys.{Keys, keys}
 use Rattle.session.specs.declared.Side.{Side}
-use Rattle.protocol.specs.Message.{Command, Response}
-use Rattle.protocol.specs.Answer.{Answer, refused, gave}
+use Rattle.answers.specs.Answer.{Answer, refused, gave}
 use Rattle.protocol.specs.Transcript.{Call, wrapCommand, unwrapCommand, wrapResponse, unwrapResponse, close, Gives}
 
 -- ---- openings

@@ -18,7 +18,7 @@ use Rattle.session.specs.declared.Session.{Session}
 use Rattle.saved.specs.Saved.{encode}
 use Rattle.saved.specs.declared.Decoding.the-variants.{Refused as Unread}
 use Rattle.ciphers.specs.Aes.{aesCiphers}
-use Rattle.protocol.specs.Answer.{Answer, refused}
+use Rattle.answers.specs.Answer.{Answer, refused}
 use Rattle.protocol.specs.RefusalKeeps.{order, IsClosed}
 use Rattle.protocol.specs.Transcript.{Gives, does}
 use Rattle.session_bytes.specs.SessionBytes.{sessionIn, onSession}

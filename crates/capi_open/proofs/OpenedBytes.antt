@@ -2,14 +2,12 @@
 use mathlib.Core.Path.{_≡_, ap, _∙_}
 use Prim.Native.Nat.{ℕ, _<_, _≤_}
 use borrow.Author.Tests.{le-leb, lt-leb}
-use lib.Dec.{leb}
-use Rattle.octets.specs.Choice.{if_then_else_}
 use Rattle.refusal.specs.declared.Refusal.{Refusal}
 use Rattle.refusal.specs.declared.Refusal.the-variants.{BufferTooSmall}
 use Rattle.session.specs.declared.Opened.{Opened}
 use Rattle.session.specs.declared.Opening.the-variants.{Opened as Done, Refused}
 use Rattle.saved.specs.Saved.{encode}
-use Rattle.protocol.specs.Answer.{refused, gave, require_else_⨾_}
+use Rattle.answers.specs.Answer.{refused, gave, require_else_⨾_}
 use Rattle.capi_open.specs.OpenOn.{openedAs, bytesOf}
 
 module _ (o : Opened) (room : ℕ) where

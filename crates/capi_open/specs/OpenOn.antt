@@ -11,7 +11,7 @@ use Rattle.session.specs.declared.Opened.{Opened}
 use Rattle.session.specs.declared.Opening.{Opening}
 use Rattle.session.specs.declared.Opening.the-variants.{Opened as Done, Refused}
 use Rattle.saved.specs.Saved.{encode}
-use Rattle.protocol.specs.Answer.{Answer, refused, gave, require_else_⨾_}
+use Rattle.answers.specs.Answer.{Answer, refused, gave, require_else_⨾_}
 use Rattle.results.specs.Results.{wrapAnswer}
 use Rattle.values.specs.Values.{wrapValues}
 use Rattle.values.specs.declared.Values.{Values}

@@ -10,7 +10,7 @@ ghost use mathlib.Core.Path.{_≡_};
 ghost use lib.ListN.{length};
 ghost use Rattle.stored_keys.specs.StoredKeys.{KeysOfBytes, keys};
 ghost use Rattle.session.specs.declared.Side.the-variants.{Host, Card};
-ghost use Rattle.protocol.specs.Answer.{buffer};
+ghost use Rattle.answers.specs.Answer.{buffer};
 ghost use Rattle.values.specs.Values.{refusalValues};
 ghost use Rattle.capi_open.specs.OpenOn.{bytesOf, openOn, openGives};
 

@@ -4,13 +4,14 @@ use Prim.Native.Nat.{ℕ, _/_, _%_}
 use lib.Dec.{leb}
 use Rattle.octets.specs.Bytes.{Bytes}
 use Rattle.refusal.specs.declared.Refusal.the-variants.{BufferTooSmall}
-use Rattle.protocol.specs.Message.{status}
-use Rattle.protocol.specs.Answer.{Answer, gave, require_else_⨾_}
+use Rattle.answers.specs.Message.{status}
+use Rattle.answers.specs.Answer.{Answer, gave, require_else_⨾_}
 use Rattle.results.specs.Results.{wrapAnswer}
 use Rattle.response_chaining.specs.Fragment.{next, fragmentResponse, fragmentAnswer}
 use Rattle.response_chaining.specs.Reassembly.{chain, getResponse, reassembleResponse}
 use Rattle.response_chaining.specs.declared.ResponseReassembly.{ResponseReassembly}
-use Rattle.values.specs.Values.{wrapValues, responseFragmentValues}
+use Rattle.chaining_values.specs.ChainingValues.{responseFragmentValues}
+use Rattle.values.specs.Values.{wrapValues}
 use Rattle.values.specs.declared.Values.{Values}
 
 -- sw: the status word, SW1 * 256 + SW2

@@ -1,16 +1,16 @@
 // Response chaining for programs in C (c/pivsm.h).
+use chaining_values::response_fragment_values;
+use chaining_values::response_reassembly_values;
 use fragment_response::fragment_response;
 use octets::put_bytes;
 use reassemble_response::get_response;
 use reassemble_response::reassemble_response;
 use response_chaining::ResponseChain;
-use values::response_fragment_values;
-use values::response_reassembly_values;
 ghost use mathlib.Core.Path.{_≡_};
 ghost use lib.ListN.{length};
-ghost use Rattle.protocol.specs.Answer.{buffer};
+ghost use Rattle.answers.specs.Answer.{buffer};
 ghost use Rattle.response_chaining.specs.Reassembly.{chain as chainOf, reassemblyBuffer};
-ghost use Rattle.values.specs.Values.{responseReassemblyValues};
+ghost use Rattle.chaining_values.specs.ChainingValues.{responseReassemblyValues};
 ghost use Rattle.capi_response_chaining.specs.ResponseChains.{fragmentOf, fragmentGives, reassembleOn, getResponseOf, getResponseGives};
 
 // Refusals 3, 4, 14 and 6.

@@ -1,7 +1,7 @@
 -- pivsm_unwrap_command of c/pivsm.h: the library's call on the session that the bytes hold. Assumes nothing.
 use Prim.Native.Nat.{ℕ}
 use Rattle.octets.specs.Bytes.{Bytes}
-use Rattle.protocol.specs.Command.{CommandGiven}
+use Rattle.answers.specs.Message.{CommandGiven}
 use Rattle.results.specs.Results.{commandAnswer}
 use Rattle.values.specs.Values.{commandValues}
 use Rattle.values.specs.declared.Values.{Values}

@@ -8,7 +8,7 @@ use values::refusal_values;
 ghost use mathlib.Core.Path.{_≡_};
 ghost use lib.ListN.{length};
 ghost use Rattle.octets.specs.Bytes.{IsBytes};
-ghost use Rattle.protocol.specs.Answer.{buffer};
+ghost use Rattle.answers.specs.Answer.{buffer};
 ghost use Rattle.unwrap_command.specs.UnwrapCommand.{payloadOf};
 ghost use Rattle.capi_unwrap_command.specs.UnwrapOn.{unwrapOn, unwrapGives};
 

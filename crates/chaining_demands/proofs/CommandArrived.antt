@@ -1,21 +1,20 @@
 -- A command carried in fragments arrives: its field comes back whole, so the card is handed what the host wrapped.
 -- Assumes nothing.
 use mathlib.Core.Path.{_≡_, refl, sym, ap, subst, _∙_}
-use mathlib.Core.List.{List, [], _∷_, _++_, map}
+use mathlib.Core.List.{List, [], _∷_, map}
 use Prim.Native.Nat.{ℕ, suc, _*_, _-_}
 use native.Mathlib.Omega.{arith}
 use lib.ListN.{length, take}
 use Rattle.octets.specs.Bytes.{Bytes, tabulate}
 use Rattle.octets.specs.Write.{over}
-use Rattle.session.specs.declared.Side.the-variants.{Host, Card}
-use Rattle.protocol.specs.Answer.{Answer, gave}
+use Rattle.answers.specs.Answer.{gave}
 use Rattle.protocol.proofs.Delivered.{command-short, command-least}
 use Rattle.command_chaining.specs.Apdu.{Header, header}
 use Rattle.command_chaining.specs.Fragment.{fragmentSize, fragmentCount}
 use Rattle.command_chaining.specs.Chains.{answersTo}
 use Rattle.command_chaining.specs.declared.ReassemblyAnswer.{ReassemblyAnswer}
-use Rattle.command_chaining.specs.declared.ReassemblyAnswer.the-variants.{More, Whole, Refused}
-use Rattle.demands.specs.Calls.{WrapsCommand, UnwrapsCommand, wrapsCommand, unwrapsCommand, command, answer}
+use Rattle.command_chaining.specs.declared.ReassemblyAnswer.the-variants.{More, Whole}
+use Rattle.demands.specs.Calls.{WrapsCommand, UnwrapsCommand, command, answer}
 use Rattle.demands.specs.HonestDelivery.{CommandCarried}
 use Rattle.demands.proofs.Theorems.{demand2-commands}
 use Rattle.chaining_demands.specs.Calls.{ReassemblesCommand}

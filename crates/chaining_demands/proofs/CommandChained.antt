@@ -1,27 +1,25 @@
 -- Fragmenting and reassembling a command, of the functions, from the same of the definitions.
 -- Assumes nothing.
-use mathlib.Core.Path.{_≡_, refl, sym, ap, ap₂, subst, _∙_}
-use mathlib.Core.Bool.{true}
+use mathlib.Core.Path.{_≡_, refl, sym, ap, ap₂, _∙_}
 use mathlib.Core.List.{List, [], _∷_, map}
-use Prim.Native.Nat.{ℕ, zero, suc, _+_, _-_, _≤_, _<_}
+use Prim.Native.Nat.{ℕ, suc, _+_, _≤_, _<_}
 use native.Mathlib.Nat.{add-zero, zero-add, add-suc, suc-add}
 use native.Mathlib.Omega.{arith}
 use borrow.Author.Tests.{le-leb, lt-ltb}
-use lib.ListN.{length, take, drop}
+use lib.ListN.{length, drop}
 use lib.Seq.{take-append-seam}
 use Rattle.octets.specs.Bytes.{Bytes, tabulate}
 use Rattle.octets.specs.Write.{over}
 use Rattle.octets.proofs.Tabulate.{tabulate-ext}
-use Rattle.protocol.specs.Answer.{Answer, gave, require_else_⨾_, buffer}
+use Rattle.answers.specs.Answer.{Answer, gave, require_else_⨾_, buffer}
 use Rattle.command_chaining.specs.Apdu.{Header}
 use Rattle.command_chaining.specs.Fragment.{longestField, maxFragment, fragmentCount, fragment, fragmentCommand, fragmentAnswer}
 use Rattle.command_chaining.specs.Reassembly.{empty, reassembleCommand, reassemblyBuffer}
 use Rattle.command_chaining.specs.Chains.{fragments, Reassembled, reassembleAll}
 use Rattle.command_chaining.specs.declared.FragmentAnswer.{FragmentAnswer}
 use Rattle.command_chaining.specs.declared.CommandChain.{CommandChain}
-use Rattle.command_chaining.specs.declared.Reassembly.{Reassembly}
 use Rattle.command_chaining.proofs.Theorems.{whole-command}
-use Rattle.chaining_demands.specs.Calls.{FragmentsCommand, ReassemblesCommand, headerGiven, fieldGiven, sizeAsked, numberAsked, fragmentBefore, fragmentAfter, chainGiven, apduGiven, fieldBefore, fieldAfter, apduIn, apdu}
+use Rattle.chaining_demands.specs.Calls.{FragmentsCommand, ReassemblesCommand, headerGiven, fieldGiven, sizeAsked, numberAsked, fragmentBefore, fragmentAfter, fieldAfter, apduIn, apdu}
 use Rattle.chaining_demands.specs.CommandChaining.{Asks, AsksAll, Handed, bufferAfter, chainAfter, ReassemblesCommands}
 
 -- ---- one fragment

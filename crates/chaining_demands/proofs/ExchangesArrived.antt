@@ -1,19 +1,19 @@
 -- Honest exchanges succeed, one after another: the sessions stay in step, and the count is the number of those before.
 -- Assumes nothing.
-use mathlib.Core.Path.{_≡_, sym, ap, ap₂, subst, _∙_}
+use mathlib.Core.Path.{_≡_, sym, ap, subst}
 use mathlib.Core.List.{List, [], _∷_}
-use Prim.Native.Nat.{ℕ, _+_, _≤_}
+use Prim.Native.Nat.{_+_, _≤_}
 use native.Mathlib.Omega.{arith}
 use lib.ListN.{length}
 use Rattle.session.specs.declared.Side.the-variants.{Host, Card}
 use Rattle.session.specs.declared.Phase.{Phase}
 use Rattle.session.specs.declared.Phase.the-variants.{Ready, Pending}
 use Rattle.session.specs.declared.Session.{Session}
-use Rattle.protocol.specs.Message.{commandLimit}
+use Rattle.answers.specs.Message.{commandLimit}
 use Rattle.protocol.specs.HonestDelivery.{InStep}
-use Rattle.demands.specs.Calls.{wrapsCommand, unwrapsCommand, wrapsResponse, unwrapsResponse, session, next}
+use Rattle.demands.specs.Calls.{wrapsCommand, wrapsResponse, unwrapsResponse, session, next}
 use Rattle.demands.proofs.Theorems.{demand2-openings}
-use Rattle.chaining_demands.specs.HonestExchanges.{Exchange, Honest, AllHonest, AllSucceed, HonestExchanges}
+use Rattle.chaining_demands.specs.HonestExchanges.{Exchange, AllHonest, AllSucceed, HonestExchanges}
 use Rattle.chaining_demands.proofs.CommandArrived.{delivers-chained-commands}
 use Rattle.chaining_demands.proofs.ResponseArrived.{delivers-chained-responses}
 

@@ -7,8 +7,8 @@ use contract.Lifetimes.{Lfts}
 use denote.Ref.{now, at-last}
 use borrow.Fn.Kinds.{Dens}
 use Rattle.octets.specs.Bytes.{Bytes}
-use Rattle.protocol.specs.Message.{status}
-use Rattle.protocol.specs.Answer.{buffer}
+use Rattle.answers.specs.Message.{status}
+use Rattle.answers.specs.Answer.{buffer}
 use Rattle.fragment_command.proofs.fragment_command.Kinds as fragment-command-kinds
 use Rattle.reassemble_command.proofs.reassemble_command.Kinds as reassemble-command-kinds
 use Rattle.fragment_response.proofs.fragment_response.Kinds as fragment-response-kinds

@@ -8,25 +8,24 @@ use native.Mathlib.Omega.{arith}
 use lib.ListN.{length}
 use Rattle.octets.specs.Bytes.{Bytes}
 use Rattle.refusal.specs.declared.Refusal.{Refusal}
-use Rattle.protocol.specs.Message.{StatusWord}
-use Rattle.protocol.specs.Answer.{Answer, refused, gave, buffer}
+use Rattle.answers.specs.Message.{StatusWord}
+use Rattle.answers.specs.Answer.{Answer, refused, gave, buffer}
 use Rattle.protocol.proofs.Refused.{Among, require-among, gave-among}
 use Rattle.command_chaining.specs.Apdu.{Header, headerOf, isLast}
 use Rattle.command_chaining.specs.Fragment.{fragmentCommand, fragmentAnswer}
 use Rattle.command_chaining.specs.Reassembly.{empty, total, reassemblyChecks, taken, concluded, reassembleCommand, written, reassemblyBuffer}
 use Rattle.command_chaining.specs.declared.CommandChain.{CommandChain}
 use Rattle.command_chaining.specs.declared.Reassembly.{Reassembly}
-use Rattle.command_chaining.specs.declared.FragmentAnswer.{FragmentAnswer}
-use Rattle.command_chaining.specs.declared.FragmentAnswer.the-variants.{Fragment, Refused as NotFragmented}
-use Rattle.command_chaining.specs.declared.ReassemblyAnswer.the-variants.{More, Whole, Refused as NotReassembled}
+use Rattle.command_chaining.specs.declared.FragmentAnswer.the-variants.{Refused as NotFragmented}
+use Rattle.command_chaining.specs.declared.ReassemblyAnswer.the-variants.{Refused as NotReassembled}
 use Rattle.response_chaining.specs.Fragment.{fragmentResponse, fragmentAnswer as responseFragmentAnswer}
 use Rattle.response_chaining.specs.Reassembly.{statusOf, isMore, empty as emptyResponse, total as responseTotal, reassemblyChecks as responseChecks, taken as responseTaken, concluded as responseConcluded, reassembleResponse, written as responseWritten, reassemblyBuffer as responseBuffer}
 use Rattle.response_chaining.specs.declared.ResponseChain.{ResponseChain}
 use Rattle.response_chaining.specs.declared.ResponseReassembly.{ResponseReassembly}
-use Rattle.response_chaining.specs.declared.ResponseFragmentAnswer.the-variants.{Fragment as ResponseFragment, Refused as ResponseNotFragmented}
-use Rattle.response_chaining.specs.declared.ResponseReassemblyAnswer.the-variants.{More as ResponseMore, Whole as ResponseWhole, Refused as ResponseNotReassembled}
-use Rattle.values.specs.Values.{fragmentValues, reassemblyValues, responseFragmentValues, responseReassemblyValues}
-use Rattle.chaining_demands.specs.RefusalKeeps.{Event, fragmentsCommand, reassemblesCommand, fragmentsResponse, reassemblesResponse, RefusalKeeps}
+use Rattle.response_chaining.specs.declared.ResponseFragmentAnswer.the-variants.{Refused as ResponseNotFragmented}
+use Rattle.response_chaining.specs.declared.ResponseReassemblyAnswer.the-variants.{Refused as ResponseNotReassembled}
+use Rattle.chaining_values.specs.ChainingValues.{fragmentValues, reassemblyValues, responseFragmentValues, responseReassemblyValues}
+use Rattle.chaining_demands.specs.RefusalKeeps.{fragmentsCommand, reassemblesCommand, fragmentsResponse, reassemblesResponse, RefusalKeeps}
 
 -- ---- places in an order
 

@@ -7,14 +7,14 @@ use native.Mathlib.Omega.{arith}
 use lib.ListN.{length, take}
 use Rattle.octets.specs.Bytes.{Bytes, tabulate}
 use Rattle.octets.specs.Write.{over}
-use Rattle.protocol.specs.Message.{StatusWord}
-use Rattle.protocol.specs.Answer.{gave}
+use Rattle.answers.specs.Message.{StatusWord}
+use Rattle.answers.specs.Answer.{gave}
 use Rattle.protocol.proofs.Delivered.{response-short, response-least}
 use Rattle.parts.specs.Parts.{ceiling}
 use Rattle.response_chaining.specs.Fragment.{announced}
 use Rattle.response_chaining.specs.Chains.{answersTo}
 use Rattle.response_chaining.specs.declared.ResponseReassemblyAnswer.{ResponseReassemblyAnswer}
-use Rattle.response_chaining.specs.declared.ResponseReassemblyAnswer.the-variants.{More, Whole, Refused}
+use Rattle.response_chaining.specs.declared.ResponseReassemblyAnswer.the-variants.{More, Whole}
 use Rattle.demands.specs.Calls.{WrapsResponse, UnwrapsResponse, response}
 use Rattle.demands.specs.HonestDelivery.{ResponseCarried}
 use Rattle.demands.proofs.Theorems.{demand2-responses}

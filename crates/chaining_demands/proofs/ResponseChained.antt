@@ -3,23 +3,22 @@
 use mathlib.Core.Path.{_≡_, refl, sym, ap, subst, _∙_}
 use mathlib.Core.Bool.{true}
 use mathlib.Core.List.{List, [], _∷_, map}
-use Prim.Native.Nat.{ℕ, zero, suc, _+_, _*_, _≤_, _<_}
+use Prim.Native.Nat.{ℕ, zero, suc, _*_, _≤_, _<_}
 use native.Mathlib.Omega.{arith}
 use borrow.Author.Tests.{le-leb, lt-ltb}
-use lib.ListN.{length, take, drop}
+use lib.ListN.{length, drop}
 use lib.Seq.{take-append-seam}
 use Rattle.octets.specs.Bytes.{Bytes, tabulate}
 use Rattle.octets.specs.Write.{over}
-use Rattle.protocol.specs.Message.{StatusWord}
-use Rattle.protocol.specs.Permission.{statusPermitted}
-use Rattle.protocol.specs.Answer.{Answer, gave, require_else_⨾_, buffer}
+use Rattle.answers.specs.Message.{StatusWord}
+use Rattle.permission.specs.Permission.{statusPermitted}
+use Rattle.answers.specs.Answer.{Answer, gave, require_else_⨾_, buffer}
 use Rattle.parts.specs.Parts.{ceiling}
 use Rattle.parts.proofs.Ceiling.{starts-within}
 use Rattle.response_chaining.specs.Fragment.{longestField, next, fragment, fragmentResponse, fragmentAnswer}
 use Rattle.response_chaining.specs.Reassembly.{empty, reassembleResponse, reassemblyBuffer}
 use Rattle.response_chaining.specs.Chains.{leAfter, Reassembled, requests}
 use Rattle.response_chaining.specs.declared.ResponseFragmentAnswer.{ResponseFragmentAnswer}
-use Rattle.response_chaining.specs.declared.ResponseFragmentAnswer.the-variants.{Fragment}
 use Rattle.response_chaining.specs.declared.ResponseChain.{ResponseChain}
 use Rattle.response_chaining.specs.declared.ResponseReassembly.{ResponseReassembly}
 use Rattle.response_chaining.proofs.Theorems.{whole-response}

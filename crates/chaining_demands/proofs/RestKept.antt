@@ -1,9 +1,9 @@
 -- What fragmenting and reassembling leave of the caller's buffer where they do not refuse, of the functions, from their definitions.
 -- Assumes nothing.
-use mathlib.Core.Path.{_≡_, refl, sym, ap, _∙_}
+use mathlib.Core.Path.{_≡_, refl, ap, _∙_}
 use mathlib.Core.Bool.{Bool, true, false, _&&_}
-use mathlib.Core.List.{[], _∷_, _++_, append-assoc}
-use Prim.Native.Nat.{ℕ, _+_, _-_, _≤_}
+use mathlib.Core.List.{_++_, append-assoc}
+use Prim.Native.Nat.{ℕ, _+_, _≤_}
 use native.Mathlib.Omega.{arith}
 use borrow.Author.Tests.{leb-true}
 use lib.Dec.{leb}
@@ -13,9 +13,9 @@ use Rattle.octets.specs.Bytes.{Bytes}
 use Rattle.octets.specs.Write.{over, put}
 use Rattle.refusal.specs.declared.Refusal.{Refusal}
 use Rattle.refusal.specs.declared.Refusal.the-variants.{TooLong, BufferTooSmall, Malformed, BrokenChain}
-use Rattle.protocol.specs.Message.{StatusWord, maxCommandField, maxResponseField}
-use Rattle.protocol.specs.Answer.{Answer, refused, gave, buffer, require_else_⨾_}
-use Rattle.protocol.proofs.CallCases.{require-gave}
+use Rattle.answers.specs.Message.{StatusWord, maxCommandField, maxResponseField}
+use Rattle.answers.specs.Answer.{Answer, refused, gave, buffer}
+use Rattle.answers.proofs.Required.{require-gave}
 use Rattle.command_chaining.specs.Apdu.{Header, headerOf, lc, dataOf, isLast, wellFormed}
 use Rattle.command_chaining.specs.Fragment.{fragmentAnswer}
 use Rattle.command_chaining.specs.Reassembly.{possible, continues, total, reassemblyChecks, taken, concluded, reassembleCommand, written, reassemblyBuffer}
@@ -32,8 +32,8 @@ use Rattle.response_chaining.specs.declared.ResponseReassembly.{ResponseReassem
 use Rattle.response_chaining.specs.declared.ResponseFragmentAnswer.{ResponseFragmentAnswer}
 use Rattle.response_chaining.specs.declared.ResponseFragmentAnswer.the-variants.{Refused as ResponseNotFragmented}
 use Rattle.response_chaining.specs.declared.ResponseReassemblyAnswer.the-variants.{Refused as ResponseNotReassembled}
-use Rattle.values.specs.Values.{fragmentValues, reassemblyValues, responseFragmentValues, responseReassemblyValues}
-use Rattle.chaining_demands.specs.RefusalKeeps.{Event, fragmentsCommand, reassemblesCommand, fragmentsResponse, reassemblesResponse, RestKeeps}
+use Rattle.chaining_values.specs.ChainingValues.{fragmentValues, reassemblyValues, responseFragmentValues, responseReassemblyValues}
+use Rattle.chaining_demands.specs.RefusalKeeps.{fragmentsCommand, reassemblesCommand, fragmentsResponse, reassemblesResponse, RestKeeps}
 
 -- ---- written at the start, and behind what stands there
 

@@ -2,7 +2,7 @@
 -- (`Learnt`, which Rattle generates from the contract and proves of the code). Assumes nothing.
 use mathlib.Core.List.{[]}
 use Prim.Native.Nat.{ℕ}
-use lib.ListN.{length, take}
+use lib.ListN.{take}
 use contract.Lifetimes.{Lfts}
 use denote.Ref.{now}
 use denote.Triple.Clauses.{AtExit}
@@ -16,7 +16,7 @@ use Rattle.fragment_response.proofs.fragment_response.Kinds as fragment-respons
 use Rattle.reassemble_response.proofs.reassemble_response.Reads as reassemble-response
 use Rattle.reassemble_response.proofs.reassemble_response.Kinds as reassemble-response-kinds
 use Rattle.octets.specs.Bytes.{Bytes}
-use Rattle.protocol.specs.Message.{StatusWord, status}
+use Rattle.answers.specs.Message.{StatusWord, status}
 use Rattle.command_chaining.specs.Apdu.{Header, header}
 use Rattle.command_chaining.specs.declared.FragmentAnswer.{FragmentAnswer}
 use Rattle.command_chaining.specs.declared.FragmentAnswer.the-variants.{Fragment, Refused as NotFragmented}

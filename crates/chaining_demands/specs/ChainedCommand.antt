@@ -10,9 +10,9 @@ use Rattle.octets.specs.Bytes.{Bytes}
 use Rattle.field_lengths.specs.Lengths.{ciphertextLength, commandLength}
 use Rattle.session.specs.declared.Side.the-variants.{Host, Card}
 use Rattle.session.specs.declared.Phase.the-variants.{Ready, Pending}
-use Rattle.protocol.specs.Message.{CommandHeader, maxCommandData, commandLimit}
-use Rattle.protocol.specs.Permission.{commandPermitted}
-use Rattle.protocol.specs.Answer.{Answer, refused, gave}
+use Rattle.answers.specs.Message.{CommandHeader, maxCommandData, commandLimit}
+use Rattle.permission.specs.Permission.{commandPermitted}
+use Rattle.answers.specs.Answer.{Answer, refused, gave}
 use Rattle.protocol.specs.HonestDelivery.{InStep}
 use Rattle.command_chaining.specs.Apdu.{Header, header}
 use Rattle.command_chaining.specs.Fragment.{maxFragment}

@@ -2,16 +2,16 @@
 use mathlib.Core.Path.{_≡_}
 use mathlib.Core.Bool.{true}
 use mathlib.Core.List.{List, [], _∷_}
-use Prim.Native.Nat.{ℕ, _≤_}
+use Prim.Native.Nat.{_≤_}
 use lib.ListN.{length, take}
 use denote.Ref.{now}
 use Rattle.octets.specs.Bytes.{Bytes}
 use Rattle.field_lengths.specs.Lengths.{ciphertextLength, responseLength}
 use Rattle.session.specs.declared.Side.the-variants.{Host, Card}
 use Rattle.session.specs.declared.Phase.the-variants.{Ready, Pending}
-use Rattle.protocol.specs.Message.{maxResponseData}
-use Rattle.protocol.specs.Permission.{statusPermitted}
-use Rattle.protocol.specs.Answer.{gave}
+use Rattle.answers.specs.Message.{maxResponseData}
+use Rattle.permission.specs.Permission.{statusPermitted}
+use Rattle.answers.specs.Answer.{gave}
 use Rattle.protocol.specs.HonestDelivery.{InStep}
 use Rattle.parts.specs.Parts.{ceiling}
 use Rattle.response_chaining.specs.Reassembly.{empty}

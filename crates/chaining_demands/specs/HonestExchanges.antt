@@ -7,7 +7,7 @@ use Rattle.octets.specs.Bytes.{Bytes}
 use Rattle.session.specs.declared.Side.the-variants.{Host, Card}
 use Rattle.session.specs.declared.Opening.the-variants.{Opened as Done}
 use Rattle.session.specs.declared.Session.{Session}
-use Rattle.protocol.specs.Message.{commandLimit}
+use Rattle.answers.specs.Message.{commandLimit}
 use Rattle.demands.specs.Calls.{OpensHost, OpensCard, hostKeys, cardKeys, WrapsCommand, UnwrapsCommand, WrapsResponse, UnwrapsResponse, wrapsCommand, unwrapsCommand, wrapsResponse, unwrapsResponse, session, command, response, next}
 use Rattle.chaining_demands.specs.Calls.{FragmentsCommand, ReassemblesCommand, FragmentsResponse, ReassemblesResponse}
 use Rattle.chaining_demands.specs.CommandChaining.{CommandReassembled}

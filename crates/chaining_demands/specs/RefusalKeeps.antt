@@ -7,7 +7,8 @@ use lib.ListN.{take, drop}
 use Rattle.octets.specs.Bytes.{Bytes}
 use Rattle.refusal.specs.Refusal.{number}
 use Rattle.refusal.specs.declared.Refusal.{Refusal}
-use Rattle.values.specs.Values.{refusalValues, fragmentValues, reassemblyValues, responseFragmentValues, responseReassemblyValues}
+use Rattle.chaining_values.specs.ChainingValues.{fragmentValues, reassemblyValues, responseFragmentValues, responseReassemblyValues}
+use Rattle.values.specs.Values.{refusalValues}
 use Rattle.values.specs.declared.Values.{Values}
 use Rattle.command_chaining.specs.Reassembly.{empty as emptyCommand}
 use Rattle.command_chaining.specs.declared.FragmentAnswer.the-variants.{Refused as NotFragmented}

@@ -6,8 +6,8 @@ use Prim.Native.Nat.{ℕ, _≤_}
 use lib.ListN.{length}
 use Rattle.octets.specs.Bytes.{Bytes}
 use Rattle.octets.specs.Write.{over}
-use Rattle.protocol.specs.Message.{StatusWord}
-use Rattle.protocol.specs.Permission.{statusPermitted}
+use Rattle.answers.specs.Message.{StatusWord}
+use Rattle.permission.specs.Permission.{statusPermitted}
 use Rattle.parts.specs.Parts.{ceiling}
 use Rattle.response_chaining.specs.Fragment.{longestField, fragment}
 use Rattle.response_chaining.specs.Reassembly.{empty}

@@ -4,9 +4,9 @@ use mathlib.Core.Path.{_≡_, refl, sym, ap, _∙_}
 use mathlib.Core.Bool.{Bool, true, false}
 use mathlib.Core.List.{[], _∷_}
 use mathlib.Core.Option.{some}
-use Prim.Native.Nat.{ℕ, _*_, _/_, _+_, _<_}
+use Prim.Native.Nat.{_<_}
 use native.Mathlib.Omega.{arith}
-use borrow.Author.Tests.{eq-eqb, ne-eqb, eqb-true, eqb-false}
+use borrow.Author.Tests.{ne-eqb, eqb-true, eqb-false}
 use lib.Dec.{eqb}
 use lib.ListN.{length}
 use Rattle.octets.specs.Bytes.{Bytes, IsBytes, zeros}
@@ -16,15 +16,15 @@ use Rattle.padding.proofs.Lengths.{length-pad}
 use Rattle.field_lengths.specs.Lengths.{ciphertextLength}
 use Rattle.key_expansion.specs.KeyExpansion.{schedule}
 use Rattle.key_schedule.specs.declared.KeySize.the-variants.{Aes128, Aes256}
-use Rattle.aes.specs.Aes.{aes, invAes}
+use Rattle.aes.specs.Aes.{aes}
 use Rattle.aes.specs.BlockCipher.{IsBlock, BlockCipher}
 use Rattle.aes.proofs.Block.{length-ciph}
 use Rattle.aes.proofs.RoundTrip.{aes-is}
-use Rattle.cbc.specs.Cbc.{cbcEncrypt, cbcDecrypt}
+use Rattle.cbc.specs.Cbc.{cbcEncrypt}
 use Rattle.cbc.proofs.RoundTrip.{length-cbcEncrypt, cbcDecrypt-cbcEncrypt}
 use Rattle.cmac.specs.Cmac.{cmac}
 use Rattle.cmac.proofs.Theorems.{length-cmac}
-use Rattle.ciphers.specs.Ciphers.{Ciphers, IsKey, IsCounter, Laws}
+use Rattle.ciphers.specs.Ciphers.{IsKey, IsCounter, Laws}
 use Rattle.ciphers.specs.Aes.{sizeOf, ciph, invCiph, encrypt, dataIn, decryptBlocks, decrypt, aesCiphers}
 use Rattle.ciphers.proofs.PaddedData.{padded-whole, padded-bytes, data-padded}
 

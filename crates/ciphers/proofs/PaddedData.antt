@@ -1,15 +1,14 @@
 -- Padded data: whole blocks of bytes, in which the data is found again.
 -- Assumes nothing.
-use mathlib.Core.Path.{_≡_, refl, ap, _∙_}
+use mathlib.Core.Path.{_≡_, refl, ap}
 use mathlib.Core.Option.{some}
-use mathlib.Core.List.{_∷_, _++_}
-use Prim.Native.Nat.{ℕ, _+_, _*_, _/_, _-_, _%_, _<_}
+use mathlib.Core.List.{_∷_}
+use Prim.Native.Nat.{_-_, _%_, _<_}
 use native.Mathlib.Omega.{arith}
-use lib.ListN.{length, take}
+use lib.ListN.{length}
 use lib.Seq.{take-at}
 use Rattle.octets.specs.Bytes.{Bytes, IsBytes, zeros}
 use Rattle.padding.specs.Padding.{padding, pad, paddedLength, unpad}
-use Rattle.padding.specs.declared.Unpadded.the-variants.{Data}
 use Rattle.padding.proofs.Lengths.{length-pad}
 use Rattle.padding.proofs.Unpadding.{unpad-pad}
 use Rattle.ciphers.specs.Aes.{dataIn}

@@ -1,7 +1,6 @@
 -- SP 800-73-4 Part 2, 4.2.2 and 4.2.3: the real ciphers, AES with CMAC and CBC. Assumes nothing.
 use mathlib.Core.List.{[]}
 use mathlib.Core.Option.{Option, none, some}
-use Prim.Native.Nat.{ℕ}
 use lib.Dec.{eqb}
 use lib.ListN.{length, take}
 use Rattle.octets.specs.Bytes.{Bytes}

@@ -1,8 +1,8 @@
 // CMAC with AES (SP 800-38B), over a message that comes in parts.
 use aes::encrypt_block;
+use blocks::block_at;
+use blocks::xor_block;
 use key_schedule::KeySize;
-use octets::block_at;
-use octets::xor_block;
 use subkeys::subkey1;
 use subkeys::subkey2;
 ghost use mathlib.Core.Path.{_≡_};

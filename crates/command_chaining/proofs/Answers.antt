@@ -2,7 +2,7 @@
 -- the length needed, and the chain that is left.
 -- Assumes nothing.
 use mathlib.Core.Path.{_≡_, refl}
-use mathlib.Core.Bool.{true, false, _&&_, _||_}
+use mathlib.Core.Bool.{true, false}
 use mathlib.Core.List.{List, [], _∷_, _++_}
 use Prim.Native.Nat.{ℕ}
 use lib.ListN.{length}
@@ -10,8 +10,8 @@ use Rattle.octets.specs.Bytes.{Bytes, zeros}
 use Rattle.octets.specs.Write.{put}
 use Rattle.refusal.specs.Refusal.{number, extra}
 use Rattle.refusal.specs.declared.Refusal.the-variants.{FragmentTooLong}
-use Rattle.protocol.specs.Answer.{Answer, refused, gave, require_else_⨾_}
-use Rattle.command_chaining.specs.Apdu.{Header, header, commandApdu, fragmentApdu, isChained, isLast, wellFormed}
+use Rattle.answers.specs.Answer.{Answer, refused, gave, require_else_⨾_}
+use Rattle.command_chaining.specs.Apdu.{Header, header, fragmentApdu, isChained, isLast, wellFormed}
 use Rattle.command_chaining.specs.Fragment.{fragmentSize, fragmentCount, fragment, fragmentCommand, fragmentAnswer}
 use Rattle.command_chaining.specs.Reassembly.{empty, chain, possible, continues, reassemblyChecks, taken, concluded, reassembleCommand, written, reassemblyBuffer}
 use Rattle.command_chaining.specs.declared.FragmentAnswer.the-variants.{Fragment, Refused as NotFragmented}

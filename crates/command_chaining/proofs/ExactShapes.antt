@@ -1,6 +1,6 @@
 -- A well-formed APDU is the writing of its header and its data: one case for each shape.
 -- Assumes nothing.
-use mathlib.Core.Path.{_≡_, refl, sym, ap, ap₂, _∙_}
+use mathlib.Core.Path.{_≡_, refl, sym, ap, _∙_}
 use mathlib.Core.Bool.{Bool, true, false, _&&_, _||_}
 use mathlib.Core.List.{[], _∷_, _++_}
 use Prim.Native.Nat.{ℕ, suc, _+_, _≤_}
@@ -11,7 +11,7 @@ use lib.ListN.{length, getD, take}
 use lib.Seq.{length-take-le, take-all, take-suc, getD-append-add}
 use Rattle.octets.specs.Bytes.{Bytes}
 use Rattle.octets.proofs.Tests.{both}
-use Rattle.command_chaining.specs.Apdu.{lastCla, chainedCla, fragmentApdu, headerOf, lc, dataOf, isChained, isLast, wellFormed}
+use Rattle.command_chaining.specs.Apdu.{lastCla, chainedCla, fragmentApdu, headerOf, dataOf, isChained, isLast, wellFormed}
 use Rattle.command_chaining.specs.Chains.{ExactShapes, WrittenAreWellFormed}
 use Rattle.command_chaining.proofs.WrittenApdu.{written-well-formed}
 

@@ -1,29 +1,26 @@
 -- The chains that fragments lead to are the possible ones: a taken fragment leaves a possible chain, fragments of one byte lead to each of them,
 -- and with any other chain every APDU is refused.
 -- Assumes nothing.
-use mathlib.Core.Path.{_≡_, refl, sym, ap, subst, _∙_}
+use mathlib.Core.Path.{_≡_, refl, ap, subst, _∙_}
 use mathlib.Core.Bool.{Bool, true, false, _&&_}
 use mathlib.Core.List.{[], _∷_}
 use Prim.Native.Nat.{ℕ, zero, suc, _+_, _≤_}
 use native.Mathlib.Omega.{arith}
-use borrow.Author.Tests.{leb-true, eqb-true, eqb-false, le-leb, eq-eqb, ne-eqb}
+use borrow.Author.Tests.{leb-true, eqb-true, le-leb, eq-eqb, ne-eqb}
 use lib.Dec.{leb, eqb}
-use lib.ListN.{length}
 use Rattle.octets.specs.Bytes.{Bytes}
 use Rattle.octets.specs.Choice.{if_then_else_}
 use Rattle.octets.proofs.Tests.{both}
-use Rattle.refusal.specs.declared.Refusal.{Refusal}
 use Rattle.refusal.specs.declared.Refusal.the-variants.{TooLong, BufferTooSmall, Malformed, BrokenChain}
-use Rattle.protocol.specs.Message.{maxCommandField}
-use Rattle.protocol.specs.Answer.{Answer, refused, gave, require_else_⨾_}
-use Rattle.protocol.proofs.CallCases.{require-gave}
-use Rattle.command_chaining.specs.Apdu.{Header, header, fragmentApdu, headerOf, lc, isChained, isLast, wellFormed}
+use Rattle.answers.specs.Message.{maxCommandField}
+use Rattle.answers.specs.Answer.{Answer, refused, gave, require_else_⨾_}
+use Rattle.answers.proofs.Required.{require-gave}
+use Rattle.command_chaining.specs.Apdu.{Header, header, fragmentApdu, headerOf, lc, isLast, wellFormed}
 use Rattle.command_chaining.specs.Reassembly.{empty, chain, possible, continues, total, reassemblyChecks, taken, concluded, reassembleCommand}
 use Rattle.command_chaining.specs.Chains.{Reached, none, more, ReachedArePossible, PossibleAreReached, OthersAreRefused}
 use Rattle.command_chaining.specs.declared.CommandChain.{CommandChain}
 use Rattle.command_chaining.specs.declared.Reassembly.{Reassembly}
-use Rattle.command_chaining.specs.declared.ReassemblyAnswer.{ReassemblyAnswer}
-use Rattle.command_chaining.specs.declared.ReassemblyAnswer.the-variants.{More, Whole, Refused}
+use Rattle.command_chaining.specs.declared.ReassemblyAnswer.the-variants.{More, Refused}
 use Rattle.command_chaining.proofs.TakenFragment.{taken-answer}
 
 -- ---- a fragment leaves a possible chain

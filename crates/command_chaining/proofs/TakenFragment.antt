@@ -1,6 +1,6 @@
 -- A fragment that was written, of a chain that it continues, is taken: its data stands behind what was there.
 -- Assumes nothing.
-use mathlib.Core.Path.{_≡_, refl, sym, ap, subst, _∙_}
+use mathlib.Core.Path.{_≡_, ap, _∙_}
 use mathlib.Core.Bool.{Bool, true}
 use Prim.Native.Nat.{ℕ, _+_, _≤_}
 use native.Mathlib.Omega.{arith}
@@ -8,10 +8,9 @@ use borrow.Author.Tests.{le-leb}
 use lib.ListN.{length}
 use Rattle.octets.specs.Bytes.{Bytes}
 use Rattle.octets.specs.Write.{put}
-use Rattle.octets.proofs.Tests.{and-intro}
-use Rattle.protocol.specs.Message.{maxCommandField}
-use Rattle.protocol.specs.Answer.{Answer, gave, require_else_⨾_}
-use Rattle.command_chaining.specs.Apdu.{Header, fragmentApdu, headerOf, lc, dataOf, isLast, wellFormed}
+use Rattle.answers.specs.Message.{maxCommandField}
+use Rattle.answers.specs.Answer.{gave, require_else_⨾_}
+use Rattle.command_chaining.specs.Apdu.{Header, fragmentApdu, headerOf, wellFormed}
 use Rattle.command_chaining.specs.Reassembly.{possible, continues, total, reassemblyChecks, taken, concluded, reassembleCommand, written, reassemblyBuffer}
 use Rattle.command_chaining.specs.declared.CommandChain.{CommandChain}
 use Rattle.command_chaining.proofs.WrittenApdu.{written-header, written-lc, written-data, written-last, written-well-formed}

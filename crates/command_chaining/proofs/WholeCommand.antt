@@ -1,7 +1,7 @@
 -- The fragments of a field, reassembled in order, give the field: after k of them its first k·p bytes stand in the buffer.
 -- Assumes nothing.
 use mathlib.Core.Path.{_≡_, refl, sym, ap, ap₂, subst, _∙_}
-use mathlib.Core.Bool.{Bool, true, false, _&&_, _||_}
+use mathlib.Core.Bool.{Bool, true, false}
 use mathlib.Core.List.{List, [], _∷_, _++_}
 use Prim.Native.Nat.{ℕ, zero, suc, _+_, _*_, _-_, _≤_, _<_}
 use native.Mathlib.Nat.{add-zero, zero-add, add-suc, suc-add, zero-mul, suc-mul}
@@ -12,9 +12,8 @@ use lib.Seq.{length-take-le, take-all, take-add}
 use Rattle.octets.specs.Bytes.{Bytes, tabulate}
 use Rattle.octets.specs.Write.{over, put}
 use Rattle.octets.proofs.Tabulate.{tabulate-ext}
-use Rattle.octets.proofs.Tests.{and-intro}
 use Rattle.octets.proofs.Writing.{over-nil, length-over, put-over}
-use Rattle.protocol.specs.Message.{maxCommandField}
+use Rattle.answers.specs.Message.{maxCommandField}
 use Rattle.command_chaining.specs.Apdu.{Header, fragmentApdu}
 use Rattle.command_chaining.specs.Fragment.{longestField, maxFragment, fragmentSize, fragmentCount, fragment}
 use Rattle.command_chaining.specs.Reassembly.{empty, chain, possible, continues, taken, reassembleCommand, reassemblyBuffer}
@@ -22,7 +21,7 @@ use Rattle.command_chaining.specs.Chains.{fragments, Reassembled, reasse
 use Rattle.command_chaining.specs.declared.CommandChain.{CommandChain}
 use Rattle.command_chaining.specs.declared.Reassembly.{Reassembly}
 use Rattle.command_chaining.specs.declared.ReassemblyAnswer.{ReassemblyAnswer}
-use Rattle.command_chaining.specs.declared.ReassemblyAnswer.the-variants.{More, Whole, Refused}
+use Rattle.command_chaining.specs.declared.ReassemblyAnswer.the-variants.{More, Whole}
 use Rattle.parts.proofs.Ceiling.{starts-within, below-ceiling, ends-with-last}
 use Rattle.command_chaining.proofs.Sizes.{sized}
 use Rattle.command_chaining.proofs.TakenFragment.{taken-answer, taken-data}

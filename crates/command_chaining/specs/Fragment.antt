@@ -7,7 +7,7 @@ use Rattle.octets.specs.Bytes.{Bytes}
 use Rattle.octets.specs.Choice.{if_then_else_}
 use Rattle.parts.specs.Parts.{ceiling}
 use Rattle.refusal.specs.declared.Refusal.the-variants.{TooLong, BufferTooSmall, BrokenChain, FragmentTooLong}
-use Rattle.protocol.specs.Answer.{Answer, refused, gave, require_else_⨾_}
+use Rattle.answers.specs.Answer.{Answer, refused, gave, require_else_⨾_}
 use Rattle.command_chaining.specs.Apdu.{Header, fragmentApdu}
 use Rattle.command_chaining.specs.declared.FragmentAnswer.{FragmentAnswer}
 use Rattle.command_chaining.specs.declared.FragmentAnswer.the-variants.{Fragment, Refused}

@@ -7,8 +7,8 @@ use Rattle.octets.specs.Bytes.{Bytes}
 use Rattle.octets.specs.Choice.{if_then_else_}
 use Rattle.octets.specs.Write.{put}
 use Rattle.refusal.specs.declared.Refusal.the-variants.{TooLong, BufferTooSmall, Malformed, BrokenChain}
-use Rattle.protocol.specs.Message.{maxCommandField}
-use Rattle.protocol.specs.Answer.{Answer, refused, gave, require_else_⨾_}
+use Rattle.answers.specs.Message.{maxCommandField}
+use Rattle.answers.specs.Answer.{Answer, refused, gave, require_else_⨾_}
 use Rattle.command_chaining.specs.Apdu.{Header, headerOf, lc, dataOf, isLast, wellFormed}
 use Rattle.command_chaining.specs.declared.CommandChain.{CommandChain}
 use Rattle.command_chaining.specs.declared.ReassemblyAnswer.the-variants.{More, Whole, Refused}

@@ -1,6 +1,6 @@
 // The tests of wrapping and unwrapping a command, in document 01's order.
+use command_permission::command_permitted;
 use field_lengths::command_length;
-use permission::command_permitted;
 use permission::ins_permitted;
 use refusal::Refusal;
 use results::Checked;
@@ -11,7 +11,7 @@ use turn::is_turn;
 use validity::counts_as_open;
 ghost use mathlib.Core.Path.{_≡_};
 ghost use Rattle.results.specs.Results.{checked};
-ghost use Rattle.protocol.specs.Message.{header};
+ghost use Rattle.answers.specs.Message.{header};
 ghost use Rattle.protocol.specs.Command.{wrapCommandChecks, unwrapCommandChecks};
 
 // The most data of a command, and the longest field that is read.

@@ -7,12 +7,11 @@ use Prim.Native.Nat.{ℕ, zero, suc, _+_, _<_}
 use native.Mathlib.Numerals.{add-one}
 use native.Mathlib.Omega.{arith}
 use borrow.Author.Tests.{eq-eqb, ne-eqb, eqb-true, eqb-false}
-use lib.Bits.{bitXor, bitOr, bitAnd, or-add-and, and-le-l, and-le-r, or-zero-l, xor-self}
+use lib.Bits.{bitXor, bitOr, or-add-and, and-le-l, and-le-r, xor-self}
 use lib.Dec.{eqb}
 use lib.ListN.{length, getD, take}
-use Rattle.octets.proofs.Tests.{both}
+use Rattle.octets.proofs.Tests.{both, both}
 use Rattle.octets.specs.Bytes.{Bytes}
-use Rattle.octets.proofs.Tests.{both}
 use Rattle.octets.proofs.Xor.{xor-eq}
 use Rattle.compare.specs.Same.{same}
 

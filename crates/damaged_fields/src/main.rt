@@ -61,7 +61,7 @@ fn put_command(out: &mut [u8]) {
     if out.len() < field_lengths::command_length(5, true) {
         return;
     }
-    let next = objects::put_command_objects(out, &ciphertext, true);
+    let next = field_objects::put_command_objects(out, &ciphertext, true);
     objects::put_mac(out, next, [b'M'; 8]);
 }
 
@@ -70,7 +70,7 @@ fn put_response(out: &mut [u8]) {
     if out.len() < field_lengths::response_length(112) {
         return;
     }
-    let next = objects::put_response_objects(out, &ciphertext, 0x90, 0x00);
+    let next = field_objects::put_response_objects(out, &ciphertext, 0x90, 0x00);
     objects::put_mac(out, next, [b'M'; 8]);
 }
 

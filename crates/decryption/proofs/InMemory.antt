@@ -23,7 +23,8 @@ use Rattle.suite.specs.declared.Suite.{Suite}
 use Rattle.ciphers.specs.Aes.{dataIn, decryptBlocks, decrypt}
 use Rattle.session_keys.specs.SessionKeys.{keySize}
 use Rattle.session_keys.proofs.SessionCiphers.{same-cipher, same-inv-cipher}
-use Rattle.protocol.specs.Answer.{textOf, buffer}
+use Rattle.answers.specs.Answer.{buffer}
+use Rattle.protocol.specs.Reading.{textOf}
 use Rattle.decryption.specs.Decryption.{dataLength, Decrypted, unpadded}
 
 -- the data at the start of a longer string

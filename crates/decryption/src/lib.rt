@@ -16,7 +16,8 @@ ghost use Rattle.aes.specs.Aes.{invCiph};
 ghost use Rattle.cbc.specs.Cbc.{cbcDecrypt};
 ghost use Rattle.stored_keys.specs.StoredKeys.{keyIn};
 ghost use Rattle.ciphers.specs.Aes.{decrypt};
-ghost use Rattle.protocol.specs.Answer.{textOf, buffer};
+ghost use Rattle.answers.specs.Answer.{buffer};
+ghost use Rattle.protocol.specs.Reading.{textOf};
 ghost use Rattle.decryption.specs.Decryption.{Decrypted, unpadded};
 
 // CBC decryption of the first n bytes.
@@ -25,7 +26,7 @@ fn decrypt_start(size: KeySize, w: &[[u8; 4]; 60], iv: [u8; 16], text: &mut [u8]
     ensures text { λ _. ⌜ now (text .exit) ≡ over (now (text .entry)) (cbcDecrypt (invCiph size (now (w .entry))) iv (take n (now (text .entry)))) ⌝ }
     ensures length { λ _. ⌜ length (cbcDecrypt (invCiph size (now (w .entry))) iv (take n (now (text .entry)))) ≡ n ⌝ }
 {
-    cbc::decrypt(size, w, iv, &mut text[..n]);
+    cbc_decryption::decrypt(size, w, iv, &mut text[..n]);
 }
 
 // Of some whole blocks: the padded data, from index 0 of text on, and where the data ends.

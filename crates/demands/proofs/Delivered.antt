@@ -1,7 +1,6 @@
 -- Demand 2 of the functions, from demand 2 of the definitions.
 -- Assumes nothing.
 use mathlib.Core.Path.{_≡_, sym, ap, ap₂, subst, _∙_}
-use Prim.Native.Nat.{ℕ}
 use lib.ListN.{length}
 use Rattle.octets.specs.Bytes.{Bytes}
 use Rattle.stored_keys.specs.StoredKeys.{keyIn}
@@ -12,9 +11,8 @@ use Rattle.session.specs.declared.Phase.the-variants.{Ready, Pending}
 use Rattle.session.specs.declared.Opened.{Opened}
 use Rattle.session.specs.declared.Session.{Session}
 use Rattle.ciphers.specs.Ciphers.{IsKey}
-use Rattle.protocol.specs.Message.{Response}
-use Rattle.protocol.specs.Answer.{gave, Out}
-use Rattle.protocol.specs.Command.{CommandGiven}
+use Rattle.answers.specs.Message.{Response, CommandGiven}
+use Rattle.answers.specs.Answer.{gave, Out}
 use Rattle.protocol.specs.Transcript.{does}
 use Rattle.protocol.specs.HonestDelivery.{InStep, Keyed}
 use Rattle.protocol.proofs.Theorems.{demand2-commands, demand2-responses, demand2-openings}

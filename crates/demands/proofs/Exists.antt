@@ -13,9 +13,8 @@ use Rattle.wrap_command.proofs.wrap_command.Kinds as wrap-command-kinds
 use Rattle.unwrap_command.proofs.unwrap_command.Kinds as unwrap-command-kinds
 use Rattle.wrap_response.proofs.wrap_response.Kinds as wrap-response-kinds
 use Rattle.unwrap_response.proofs.unwrap_response.Kinds as unwrap-response-kinds
-use Rattle.protocol.specs.Message.{Response}
-use Rattle.protocol.specs.Answer.{buffer}
-use Rattle.protocol.specs.Command.{CommandGiven}
+use Rattle.answers.specs.Message.{Response, CommandGiven}
+use Rattle.answers.specs.Answer.{buffer}
 use Rattle.protocol.specs.HonestDelivery.{Keyed}
 use Rattle.results.specs.Results.{wrapResult, commandResult, responseResult}
 use Rattle.wrap_command.specs.WrapCommand.{wrapCommand}

@@ -22,7 +22,7 @@ use Rattle.session.specs.declared.Opening.the-variants.{Opened as Done, Refused
 use Rattle.session.specs.declared.Opened.{Opened}
 use Rattle.session.specs.declared.Session.{Session}
 use Rattle.ciphers.specs.Aes.{aesCiphers}
-use Rattle.protocol.specs.Answer.{refused, gave, Out, buffer}
+use Rattle.answers.specs.Answer.{refused, gave, Out, buffer}
 use Rattle.protocol.specs.RefusalKeeps.{writes, IsClosed}
 use Rattle.protocol.specs.Transcript.{Gives, does}
 use Rattle.protocol.proofs.Theorems.{demand1}

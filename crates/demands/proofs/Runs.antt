@@ -12,7 +12,7 @@ use Rattle.session.specs.declared.Side.the-variants.{Host, Card}
 use Rattle.session.specs.declared.Opened.{Opened}
 use Rattle.session.specs.declared.Session.{Session}
 use Rattle.ciphers.specs.Aes.{aesCiphers}
-use Rattle.protocol.specs.Answer.{Out}
+use Rattle.answers.specs.Answer.{Out}
 use Rattle.protocol.specs.Transcript.{Call, sideOf, Gives, does, State, sessionAt, moved, entered, step, run, start}
 use Rattle.protocol.specs.Agreement.{Agrees, BreaksIn, Excepted as ExceptedRun, CallBytes, AllBytes}
 use Rattle.protocol.proofs.Theorems.{demand3}

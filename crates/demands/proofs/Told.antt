@@ -6,9 +6,8 @@ use lib.Seq.{take-append-seam}
 use Rattle.octets.specs.Bytes.{Bytes}
 use Rattle.octets.specs.Write.{over}
 use Rattle.ciphers.specs.Aes.{aesCiphers}
-use Rattle.protocol.specs.Message.{Response}
-use Rattle.protocol.specs.Answer.{Answer, refused, gave, Out, buffer}
-use Rattle.protocol.specs.Command.{CommandGiven}
+use Rattle.answers.specs.Message.{Response, CommandGiven}
+use Rattle.answers.specs.Answer.{Answer, refused, gave, Out, buffer}
 use Rattle.protocol.specs.Transcript.{Gives, does}
 use Rattle.protocol.specs.RefusalKeeps.{writes}
 use Rattle.results.specs.Results.{wrapAnswer, wrapResult, commandAnswer, commandResult, responseAnswer, responseResult}

@@ -1,6 +1,5 @@
 -- Calls that ran. Each is a function's arguments, its result and what its references hold at exit, of which the function's contract holds
 -- (`Learnt`, which Rattle generates from the contract and proves of the code). Assumes nothing.
-use mathlib.Core.Bool.{false}
 use mathlib.Core.List.{[]}
 use lib.ListN.{length, take}
 use contract.Lifetimes.{Lfts}
@@ -26,9 +25,8 @@ use Rattle.stored_keys.specs.StoredKeys.{Keys, keys}
 use Rattle.session.specs.declared.Side.{Side}
 use Rattle.session.specs.declared.Session.{Session}
 use Rattle.session.specs.declared.Opened.{Opened}
-use Rattle.protocol.specs.Message.{Command, Response}
-use Rattle.protocol.specs.Answer.{Answer, refused, gave}
-use Rattle.protocol.specs.Command.{CommandGiven}
+use Rattle.answers.specs.Message.{Command, Response, CommandGiven}
+use Rattle.answers.specs.Answer.{Answer, refused, gave}
 use Rattle.protocol.specs.Transcript.{Call, wrapCommand, unwrapCommand, wrapResponse, unwrapResponse, close, Gives}
 use Rattle.values.specs.Values.{given, wrapValues, commandValues, responseValues}
 use Rattle.values.specs.declared.Values.{Values}

@@ -10,9 +10,9 @@ use Rattle.field_lengths.specs.Lengths.{ciphertextLength, commandLength, respon
 use Rattle.session.specs.declared.Opening.the-variants.{Opened as Done}
 use Rattle.session.specs.declared.Side.the-variants.{Host, Card}
 use Rattle.session.specs.declared.Phase.the-variants.{Ready, Pending}
-use Rattle.protocol.specs.Message.{maxCommandData, maxResponseData, commandLimit}
-use Rattle.protocol.specs.Permission.{commandPermitted, statusPermitted}
-use Rattle.protocol.specs.Answer.{gave}
+use Rattle.answers.specs.Message.{maxCommandData, maxResponseData, commandLimit}
+use Rattle.permission.specs.Permission.{commandPermitted, statusPermitted}
+use Rattle.answers.specs.Answer.{gave}
 use Rattle.protocol.specs.HonestDelivery.{InStep}
 use Rattle.demands.specs.Calls.{OpensHost, OpensCard, hostKeys, cardKeys, WrapsCommand, UnwrapsCommand, WrapsResponse, UnwrapsResponse, wrapsCommand, unwrapsCommand, wrapsResponse, unwrapsResponse, session, command, response, bufferBefore, next, answer}
 

@@ -9,7 +9,7 @@ use Rattle.refusal.specs.declared.Refusal.{Refusal}
 use Rattle.session.specs.Session.{noSession}
 use Rattle.session.specs.declared.Side.the-variants.{Host, Card}
 use Rattle.session.specs.declared.Opening.the-variants.{Refused}
-use Rattle.protocol.specs.Answer.{refused, buffer}
+use Rattle.answers.specs.Answer.{refused, buffer}
 use Rattle.protocol.specs.RefusalKeeps.{order, writes, IsClosed}
 use Rattle.values.specs.Values.{refusalValues}
 use Rattle.demands.specs.Calls.{OpensHost, OpensCard, Event, session, bufferBefore, bufferAfter, call, next, values, answer}

@@ -20,7 +20,6 @@ use Rattle.data_object.specs.declared.DataObject.{DataObject}
 use Rattle.data_object.specs.declared.ObjectRead.{ObjectRead}
 use Rattle.data_object.specs.declared.ObjectRead.the-variants.{Object, Malformed}
 use Rattle.fields.specs.declared.Objects.{Objects}
-use Rattle.fields.specs.declared.FieldRead.{FieldRead}
 use Rattle.fields.specs.declared.FieldRead.the-variants.{Read, Malformed as BadField, Missing}
 use Rattle.data_object.proofs.Inversion.{Stands, stands, later, rank-most}
 

@@ -1,19 +1,19 @@
 -- What an accepted field holds is what was wanted: nothing unwanted or lacking, whole blocks up to the limit, all within the field.
 -- Assumes nothing.
-use mathlib.Core.Path.{_≡_, refl, sym, ap, ap₂, _∙_}
-use mathlib.Core.Logic.{_⊎_, inl, inr}
-use mathlib.Core.Bool.{Bool, true, false, _&&_, not}
+use mathlib.Core.Path.{_≡_, refl, sym, ap, _∙_}
+use mathlib.Core.Logic.{inl, inr}
+use mathlib.Core.Bool.{Bool, true, false, _&&_}
 use Prim.Native.Nat.{ℕ, _+_, _-_, _%_, _<_, _≤_}
 use native.Mathlib.Omega.{arith}
-use borrow.Author.Tests.{eq-eqb, ne-eqb, eqb-true, leb-true, ltb-true, le-ltb}
+use borrow.Author.Tests.{eq-eqb, ne-eqb, eqb-true, leb-true, ltb-true}
 use lib.Dec.{eqb, ltb, leb}
-use lib.ListN.{length, getD, take, drop, length-drop}
+use lib.ListN.{length, getD, drop, length-drop}
 use lib.Seq.{length-take-le}
 use Rattle.octets.specs.Bytes.{Bytes}
 use Rattle.octets.specs.Choice.{if_then_else_}
 use Rattle.octets.proofs.Tests.{both}
-use Rattle.wanted.specs.Wanted.{may, lacks, tagOf, needOf, rank, allowed}
-use Rattle.object_values.specs.Values.{sizeOf, rightSize}
+use Rattle.wanted.specs.Wanted.{may, lacks, tagOf, needOf, rank, allowed, suits}
+use Rattle.object_values.specs.Values.{rightSize}
 use Rattle.fields.specs.Field.{none, readField, ciphertextOf}
 use Rattle.wanted.specs.declared.Need.{Need}
 use Rattle.wanted.specs.declared.Need.the-variants.{Must, May, MustNot}
@@ -21,10 +21,10 @@ use Rattle.wanted.specs.declared.Wanted.{Wanted}
 use Rattle.data_object.specs.declared.DataObject.{DataObject}
 use Rattle.fields.specs.declared.Objects.{Objects}
 use Rattle.fields.specs.declared.FieldRead.the-variants.{Read}
-use Rattle.field_laws.specs.Written.{suits, WholeBlocks, Conforms}
+use Rattle.field_laws.specs.Written.{Conforms}
 use Rattle.field_laws.proofs.Noted.{not-data, not-mac}
-use Rattle.field_laws.proofs.Acceptance.{Part, Optional, all-there}
-use Rattle.field_laws.proofs.Determined.{parts, inside, left, last, cut, next-of, second-there, said, data-noted, data-start-of, data-length-of}
+use Rattle.field_laws.proofs.Acceptance.{Optional, all-there}
+use Rattle.field_laws.proofs.Determined.{parts, inside, left, last, cut, second-there, data-start-of, data-length-of}
 
 -- ---- needs
 

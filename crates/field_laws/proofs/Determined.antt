@@ -1,10 +1,9 @@
 -- The bytes before '8E' of an accepted field say what its encrypted data, Le and status word are.
 -- Assumes nothing.
 use mathlib.Core.Path.{_≡_, refl, sym, ap, ap₂, _∙_}
-use mathlib.Core.Logic.{_⊎_, inl, inr}
-use mathlib.Core.Bool.{Bool, true, false, _&&_}
-use mathlib.Core.List.{[]}
-use Prim.Native.Nat.{ℕ, zero, suc, _+_, _-_, _<_, _≤_}
+use mathlib.Core.Logic.{inl, inr}
+use mathlib.Core.Bool.{true, false, _&&_}
+use Prim.Native.Nat.{ℕ, _+_, _-_, _≤_}
 use native.Mathlib.Omega.{arith}
 use borrow.Author.Tests.{eq-eqb, ne-eqb, lt-ltb, le-ltb, eqb-true, ltb-true, not-false}
 use lib.Dec.{eqb, ltb}
@@ -12,20 +11,19 @@ use lib.ListN.{length, getD, take, drop}
 use lib.Seq.{getD-take, length-take-le, take-take, take-add, drop-at}
 use Rattle.octets.proofs.Tests.{both}
 use Rattle.octets.specs.Bytes.{Bytes}
-use Rattle.octets.specs.Choice.{if_then_else_}
 use Rattle.tlv.specs.Length.{readLength}
 use Rattle.tlv.specs.declared.LengthRead.the-variants.{Length}
-use Rattle.tlv.proofs.LengthForms.{read-within, read-prefix}
+use Rattle.tlv.proofs.LengthForms.{read-prefix}
 use Rattle.wanted.specs.Wanted.{lacks, tagOf, needOf}
 use Rattle.object_values.specs.Values.{sizeOf, rightSize, rightSecond, rightValue}
-use Rattle.fields.specs.Field.{none, noted, readField, ciphertextOf, coveredOf}
+use Rattle.fields.specs.Field.{none, readField, ciphertextOf, coveredOf}
 use Rattle.wanted.specs.declared.Second.{Second}
-use Rattle.wanted.specs.declared.Second.the-variants.{Le, Status}
+use Rattle.wanted.specs.declared.Second.the-variants.{Status}
 use Rattle.wanted.specs.declared.Wanted.{Wanted}
 use Rattle.data_object.specs.declared.DataObject.{DataObject}
 use Rattle.fields.specs.declared.Objects.{Objects}
 use Rattle.fields.specs.declared.FieldRead.the-variants.{Read}
-use Rattle.data_object.proofs.Inversion.{Stands, some-byte}
+use Rattle.data_object.proofs.Inversion.{some-byte}
 use Rattle.field_laws.specs.Covered.{dataBehind, endBehind, dataIn, dataEnd, secondIn, sw1In, sw2In, Determined}
 use Rattle.field_laws.proofs.Noted.{not-data, not-mac, noted-data, noted-mac, noted-second}
 use Rattle.field_laws.proofs.Acceptance.{Part, Optional, Tail, Accepted, accepted, all-there}

@@ -2,26 +2,26 @@
 -- Assumes nothing.
 use mathlib.Core.Path.{_≡_, refl, sym, ap, ap₂, _∙_}
 use mathlib.Core.Logic.{_⊎_, inl, inr}
-use mathlib.Core.Bool.{Bool, true, false, _&&_, not}
+use mathlib.Core.Bool.{Bool, true, false, not}
 use mathlib.Core.List.{[], _∷_, _++_, append-assoc, append-nil}
-use Prim.Native.Nat.{ℕ, zero, suc, _+_, _-_, _<_, _≤_}
+use Prim.Native.Nat.{ℕ, zero, suc, _+_, _-_, _<_}
 use native.Mathlib.Nat.{add-zero}
 use native.Mathlib.Numerals.{add-one}
 use native.Mathlib.Omega.{arith}
-use borrow.Author.Tests.{eq-eqb, ne-eqb, lt-ltb, le-ltb, eqb-true, eqb-false}
+use borrow.Author.Tests.{eq-eqb, ne-eqb, lt-ltb, eqb-true, eqb-false}
 use lib.Dec.{eqb, ltb}
 use lib.ListN.{length, getD, take, drop, length-append}
 use lib.Seq.{getD-append-seam, getD-append-add, drop-append-add, take-append-seam, take-all}
 use Rattle.octets.specs.Bytes.{Bytes}
 use Rattle.octets.specs.Choice.{if_then_else_}
-use Rattle.tlv.specs.Length.{lengthField, readLength, isShortest}
+use Rattle.tlv.specs.Length.{lengthField, readLength}
 use Rattle.tlv.specs.declared.LengthRead.the-variants.{Length}
 use Rattle.tlv.proofs.LengthForms.{read-written, written-shortest}
 use Rattle.objects.specs.Objects.{object, encryptedData, leObject, statusWord, macObject, commandObjects, responseObjects, commandField, responseField}
-use Rattle.wanted.specs.Wanted.{may, lacks, tagOf, needOf, rank, allowed}
+use Rattle.wanted.specs.Wanted.{may, lacks, tagOf, needOf, rank, allowed, suits}
 use Rattle.object_values.specs.Values.{sizeOf, rightSize, rightSecond, rightValue}
 use Rattle.data_object.specs.Object.{readObject}
-use Rattle.fields.specs.Field.{none, noted, ended, walk, readField, ciphertextOf, coveredOf, macOf}
+use Rattle.fields.specs.Field.{none, noted, ended, walk, readField}
 use Rattle.wanted.specs.declared.Need.{Need}
 use Rattle.wanted.specs.declared.Need.the-variants.{Must, May, MustNot}
 use Rattle.wanted.specs.declared.Second.{Second}
@@ -34,7 +34,7 @@ use Rattle.fields.specs.declared.FieldRead.the-variants.{Read}
 use Rattle.data_object.proofs.ObjectCases.{whole-object}
 use Rattle.fields.proofs.Walk.{walk-end, walk-object}
 use Rattle.objects.proofs.FieldLengths.{mac-bytes, no-data}
-use Rattle.field_laws.specs.Written.{suits, Suits, ReadsBack}
+use Rattle.field_laws.specs.Written.{Suits, ReadsBack}
 use Rattle.field_laws.proofs.Noted.{not-data, not-mac, noted-data, noted-mac, noted-second, rank-data, rank-second, rank-mac}
 
 -- an object that was written between front and back

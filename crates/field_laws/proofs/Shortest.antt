@@ -1,20 +1,18 @@
 -- While only the shortest length forms are read, the bytes before '8E' of an accepted field are the writing of its objects.
 -- Nothing else rests on this. Assumes nothing.
 use mathlib.Core.Path.{_≡_, refl, sym, ap, ap₂, _∙_}
-use mathlib.Core.Logic.{_⊎_, inl, inr}
-use mathlib.Core.Bool.{Bool, true, false, _&&_}
+use mathlib.Core.Logic.{inl, inr}
+use mathlib.Core.Bool.{true, false, _&&_}
 use mathlib.Core.List.{[], _∷_, _++_}
-use Prim.Native.Nat.{ℕ, zero, suc, _+_, _-_, _%_, _<_, _≤_}
-use native.Mathlib.Nat.{add-zero}
+use Prim.Native.Nat.{ℕ, suc, _+_, _-_, _%_, _<_, _≤_}
 use native.Mathlib.Numerals.{add-one}
 use native.Mathlib.Omega.{arith}
-use borrow.Author.Tests.{eq-eqb, ne-eqb, lt-ltb, le-ltb, eqb-true, leb-true, ltb-true}
+use borrow.Author.Tests.{ne-eqb, lt-ltb, le-ltb, eqb-true, leb-true, ltb-true}
 use lib.Dec.{eqb, ltb, leb}
 use lib.ListN.{length, getD, take, drop, length-drop}
 use lib.Seq.{length-take-le, take-add, drop-cons, drop-drop}
 use Rattle.octets.proofs.Tests.{both}
 use Rattle.octets.specs.Bytes.{Bytes, IsBytes}
-use Rattle.octets.specs.Choice.{if_then_else_}
 use Rattle.tlv.specs.Length.{lengthField}
 use Rattle.tlv.proofs.LengthForms.{read-shortest}
 use Rattle.objects.specs.Objects.{object, encryptedData, leObject, statusWord, commandObjects, responseObjects}
@@ -25,11 +23,10 @@ use Rattle.wanted.specs.declared.Need.{Need}
 use Rattle.wanted.specs.declared.Second.{Second}
 use Rattle.wanted.specs.declared.Second.the-variants.{Le, Status}
 use Rattle.wanted.specs.declared.Wanted.{Wanted}
-use Rattle.data_object.specs.declared.DataObject.{DataObject}
 use Rattle.fields.specs.declared.Objects.{Objects}
 use Rattle.fields.specs.declared.FieldRead.the-variants.{Read}
-use Rattle.field_laws.proofs.Acceptance.{Part, Optional, Tail, Accepted}
-use Rattle.field_laws.proofs.Determined.{tag-of, next-of, some-of, second-size, second-value, status-value, parts, inside, left, last, cut, second-there, status-there, data-start-of, data-length-of, data-noted, optional-behind}
+use Rattle.field_laws.proofs.Acceptance.{Part, Optional}
+use Rattle.field_laws.proofs.Determined.{next-of, second-size, second-value, status-value, parts, inside, cut, second-there, status-there, data-start-of, data-length-of, data-noted, optional-behind}
 
 -- one byte more
 next-byte : (xs : Bytes) (i k : ℕ) → i < length xs → take (suc k) (drop i xs) ≡ getD xs i 0 ∷ take k (drop (i + 1) xs)

@@ -1,24 +1,16 @@
 -- A written field and its reading: what the reader must want, and what it then gives. Assumes nothing.
 use mathlib.Core.Path.{_≡_}
-use mathlib.Core.Bool.{Bool, true, not}
+use mathlib.Core.Bool.{Bool, true}
 use Prim.Native.Nat.{ℕ, _+_, _%_, _<_, _≤_}
 use lib.Dec.{ltb}
 use lib.ListN.{length}
 use Rattle.octets.specs.Bytes.{Bytes}
-use Rattle.wanted.specs.Wanted.{needOf}
+use Rattle.wanted.specs.Wanted.{needOf, suits}
 use Rattle.object_values.specs.Values.{rightSize}
 use Rattle.fields.specs.Field.{readField, ciphertextOf, coveredOf, macOf}
-use Rattle.wanted.specs.declared.Need.{Need}
-use Rattle.wanted.specs.declared.Need.the-variants.{Must, May, MustNot}
 use Rattle.wanted.specs.declared.Wanted.{Wanted}
 use Rattle.fields.specs.declared.Objects.{Objects}
 use Rattle.fields.specs.declared.FieldRead.the-variants.{Read}
-
--- whether an object may be there, or be absent
-abbrev pub suits : Need → Bool → Bool
-suits Must there = there
-suits May there = true
-suits MustNot there = not there
 
 -- encrypted data: nothing, or whole blocks up to a limit
 abbrev pub WholeBlocks : ℕ → Bytes → Type 0

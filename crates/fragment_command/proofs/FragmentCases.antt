@@ -7,8 +7,8 @@ use borrow.Author.Tests.{leb-true, ltb-true}
 use lib.ListN.{length}
 use Rattle.octets.specs.Bytes.{Bytes}
 use Rattle.refusal.specs.declared.Refusal.{Refusal}
-use Rattle.protocol.specs.Answer.{Answer, refused, gave}
-use Rattle.protocol.proofs.CallCases.{require-gave}
+use Rattle.answers.specs.Answer.{Answer, refused, gave}
+use Rattle.answers.proofs.Required.{require-gave}
 use Rattle.command_chaining.specs.Apdu.{Header}
 use Rattle.command_chaining.specs.Fragment.{fragmentCount, fragment, fragmentCommand, fragmentAnswer}
 use Rattle.command_chaining.specs.declared.FragmentAnswer.the-variants.{Fragment, Refused}

@@ -9,7 +9,7 @@ ghost use mathlib.Core.Path.{_≡_};
 ghost use Prim.Native.Nat.{_<_, _≤_};
 ghost use lib.ListN.{length};
 ghost use Rattle.octets.specs.Write.{Wrote};
-ghost use Rattle.protocol.specs.Answer.{buffer};
+ghost use Rattle.answers.specs.Answer.{buffer};
 ghost use Rattle.command_chaining.specs.Apdu.{Header, header};
 ghost use Rattle.command_chaining.specs.Fragment.{fragmentCount, fragment, fragmentCommand, fragmentAnswer};
 

@@ -7,9 +7,9 @@ use borrow.Author.Tests.{leb-true, ltb-true}
 use lib.ListN.{length}
 use Rattle.octets.specs.Bytes.{Bytes}
 use Rattle.refusal.specs.declared.Refusal.{Refusal}
-use Rattle.protocol.specs.Message.{StatusWord}
-use Rattle.protocol.specs.Answer.{Answer, refused, gave}
-use Rattle.protocol.proofs.CallCases.{require-gave}
+use Rattle.answers.specs.Message.{StatusWord}
+use Rattle.answers.specs.Answer.{Answer, refused, gave}
+use Rattle.answers.proofs.Required.{require-gave}
 use Rattle.response_chaining.specs.Fragment.{next, fragment, fragmentResponse, fragmentAnswer}
 use Rattle.response_chaining.specs.declared.ResponseFragmentAnswer.the-variants.{Fragment, Refused}
 

@@ -10,8 +10,8 @@ ghost use mathlib.Core.List.{_++_};
 ghost use Prim.Native.Nat.{_+_, _-_, _≤_};
 ghost use lib.ListN.{length, take, drop};
 ghost use Rattle.octets.specs.Write.{Wrote};
-ghost use Rattle.protocol.specs.Answer.{buffer};
-ghost use Rattle.protocol.specs.Message.{status};
+ghost use Rattle.answers.specs.Answer.{buffer};
+ghost use Rattle.answers.specs.Message.{status};
 ghost use Rattle.response_chaining.specs.Fragment.{fragmentStatus, next, fragmentResponse, fragmentAnswer};
 
 const MAX_RESPONSE_FIELD: usize = 16403;

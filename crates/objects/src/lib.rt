@@ -8,7 +8,7 @@ ghost use Prim.Native.Nat.{_+_, _<_, _≤_};
 ghost use lib.ListN.{length};
 ghost use Rattle.octets.specs.Write.{Wrote};
 ghost use Rattle.tlv.specs.Length.{lengthField};
-ghost use Rattle.objects.specs.Objects.{encryptedData, leObject, macObject, commandObjects, responseObjects};
+ghost use Rattle.objects.specs.Objects.{encryptedData, leObject, macObject};
 
 // Tag, length and padding-content indicator byte of e bytes of encrypted data.
 fn put_data_header(out: &mut [u8], at: usize, e: usize) -> usize
@@ -20,7 +20,7 @@ fn put_data_header(out: &mut [u8], at: usize, e: usize) -> usize
     put_byte(out, v, 0x01)
 }
 
-fn put_encrypted_data(out: &mut [u8], at: usize, ciphertext: &[u8]) -> usize
+pub fn put_encrypted_data(out: &mut [u8], at: usize, ciphertext: &[u8]) -> usize
     requires { ⌜ (length (now ciphertext) < 65535) × (at + length (encryptedData (now ciphertext)) ≤ length (now out)) ⌝ }
     ensures { λ next. ⌜ Wrote (now (out .entry)) at (encryptedData (now (ciphertext .entry))) next (now (out .exit)) ⌝ }
 {
@@ -31,7 +31,7 @@ fn put_encrypted_data(out: &mut [u8], at: usize, ciphertext: &[u8]) -> usize
     put_bytes(out, n, ciphertext)
 }
 
-fn put_le(out: &mut [u8], at: usize, le: bool) -> usize
+pub fn put_le(out: &mut [u8], at: usize, le: bool) -> usize
     requires { ⌜ at + length (leObject le) ≤ length (now out) ⌝ }
     ensures { λ next. ⌜ Wrote (now (out .entry)) at (leObject le) next (now (out .exit)) ⌝ }
 {
@@ -39,24 +39,6 @@ fn put_le(out: &mut [u8], at: usize, le: bool) -> usize
         return put_bytes(out, at, &[0x97, 0x01, 0x00]);
     }
     at
-}
-
-// The objects that a command's MAC covers, from index 0 on; the index behind them.
-pub fn put_command_objects(out: &mut [u8], ciphertext: &[u8], le: bool) -> usize
-    requires { ⌜ (length (now ciphertext) < 65535) × (length (commandObjects (now ciphertext) le) ≤ length (now out)) ⌝ }
-    ensures { λ next. ⌜ Wrote (now (out .entry)) 0 (commandObjects (now (ciphertext .entry)) le) next (now (out .exit)) ⌝ }
-{
-    let n = put_encrypted_data(out, 0, ciphertext);
-    put_le(out, n, le)
-}
-
-// The objects that a response's MAC covers, from index 0 on; the index behind them.
-pub fn put_response_objects(out: &mut [u8], ciphertext: &[u8], sw1: u8, sw2: u8) -> usize
-    requires { ⌜ (length (now ciphertext) < 65535) × (length (responseObjects (now ciphertext) sw1 sw2) ≤ length (now out)) ⌝ }
-    ensures { λ next. ⌜ Wrote (now (out .entry)) 0 (responseObjects (now (ciphertext .entry)) sw1 sw2) next (now (out .exit)) ⌝ }
-{
-    let n = put_encrypted_data(out, 0, ciphertext);
-    put_bytes(out, n, &[0x99, 0x02, sw1, sw2])
 }
 
 // The MAC's object, last in a field; the index behind it.

@@ -1,37 +1,9 @@
-// Strings of bytes: the words that every crate uses, blocks of 16 bytes, and writing into a caller's buffer.
-ghost use mathlib.Core.Path.{_≡_};
+// Strings of bytes: the words that every crate uses, and writing into a buffer that the caller lends.
 ghost use mathlib.Core.List.{[], _∷_};
 ghost use Prim.Native.Nat.{_+_, _<_, _≤_};
-ghost use lib.ListN.{length, take, drop};
-ghost use Rattle.octets.specs.Bytes.{_xor_, zeros};
+ghost use lib.ListN.{length};
+ghost use Rattle.octets.specs.Bytes.{zeros};
 ghost use Rattle.octets.specs.Write.{Wrote};
-
-// The exclusive or of two blocks.
-pub fn xor_block(a: [u8; 16], b: [u8; 16]) -> [u8; 16]
-    ensures { λ block. ⌜ block ≡ a xor b ⌝ }
-{
-    let mut block = [0u8; 16];
-    let mut i: usize = 0;
-    while i < 16 {
-        block[i] = a[i] ^ b[i];
-        i += 1;
-    }
-    block
-}
-
-// The 16 bytes from index `at` on.
-pub fn block_at(bytes: &[u8], at: usize) -> [u8; 16]
-    requires { ⌜ at + 16 ≤ length (now bytes) ⌝ }
-    ensures { λ block. ⌜ block ≡ take 16 (drop at (now (bytes .entry))) ⌝ }
-{
-    let mut block = [0u8; 16];
-    let mut i: usize = 0;
-    while i < 16 {
-        block[i] = bytes[at + i];
-        i += 1;
-    }
-    block
-}
 
 // Copies src into out from index `at` on; the index behind it.
 pub fn put_bytes(out: &mut [u8], at: usize, src: &[u8]) -> usize

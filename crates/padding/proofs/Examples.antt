@@ -2,7 +2,7 @@
 -- Assumes nothing.
 use mathlib.Core.Path.{_≡_, refl}
 use mathlib.Core.List.{[], _∷_, _++_}
-use Rattle.octets.specs.Bytes.{Bytes, zeros}
+use Rattle.octets.specs.Bytes.{zeros}
 use Rattle.padding.specs.Padding.{padding, marked, markBefore, unpad}
 use Rattle.padding.specs.declared.Unpadded.the-variants.{Data, BadPadding}
 

@@ -1,12 +1,10 @@
-// Which commands and statuses are permitted (document 01, "Objects, encryption and MAC").
+// Which INS and statuses are permitted, what Le and data each INS takes, and what fields are read for (document 01, "Objects, encryption and MAC").
 use wanted::Need;
 use wanted::Second;
 use wanted::Wanted;
 ghost use mathlib.Core.Path.{_≡_};
-ghost use Prim.Native.Nat.{_<_};
-ghost use Rattle.field_laws.specs.Written.{suits};
-ghost use Rattle.protocol.specs.Message.{header, status};
-ghost use Rattle.protocol.specs.Permission.{insPermitted, leNeed, dataNeed, commandPermitted, statusPermitted, commandWanted, responseWanted};
+ghost use Rattle.answers.specs.Message.{status};
+ghost use Rattle.permission.specs.Permission.{insPermitted, leNeed, dataNeed, statusPermitted, commandWanted, responseWanted};
 
 const VERIFY: u8 = 0x20;
 
@@ -57,28 +55,6 @@ pub fn data_need(ins: u8) -> Need
         return Need::Must;
     }
     Need::May
-}
-
-fn suits(need: Need, there: bool) -> bool
-    ensures { λ r. ⌜ r ≡ suits need there ⌝ }
-{
-    match need {
-        Need::Must => there,
-        Need::May => true,
-        Need::MustNot => !there,
-    }
-}
-
-// A command with n bytes of data.
-pub fn command_permitted(ins: u8, p1: u8, p2: u8, le: bool, n: usize) -> bool
-    ensures { λ r. ⌜ r ≡ commandPermitted (header ins p1 p2 le) n ⌝ }
-{
-    if ins_permitted(ins) {
-        if suits(data_need(ins), 0 < n) {
-            return suits(le_need(ins), le);
-        }
-    }
-    false
 }
 
 // A card may not wrap a status with SW1 '61'.

@@ -1,14 +1,13 @@
 // AES, CBC and CMAC for C (c/primitives.h): for the benchmark and the comparison with another library.
+use blocks::block_at;
 use cbc::Outcome;
 use cmac::Cmac;
-use octets::block_at;
 use octets::put_bytes;
 use primitive_calls::Key;
 use primitive_calls::expanded;
 use primitive_calls::key_size;
 ghost use mathlib.Core.Path.{_≡_};
-ghost use Rattle.primitive_calls.specs.Calls.{aesAnswer, aesEncryptBuffer, aesDecryptBuffer};
-ghost use Rattle.primitive_calls.specs.Calls.{cbcAnswer, cbcEncryptBuffer, cbcDecryptBuffer, cmacAnswer, cmacBuffer};
+ghost use Rattle.primitive_calls.specs.Calls.{aesAnswer, aesEncryptBuffer, aesDecryptBuffer, cbcAnswer, cbcEncryptBuffer, cbcDecryptBuffer, cmacAnswer, cmacBuffer};
 
 const DONE: u32 = 0;
 
@@ -80,7 +79,7 @@ pub extern "C" fn pivsm_cbc_decrypt(key: &[u8], iv: &[u8], data: &mut [u8]) -> u
         return MALFORMED;
     }
     let w = expanded(size, key);
-    match cbc::decrypt(size, &w, block_at(iv, 0), data) {
+    match cbc_decryption::decrypt(size, &w, block_at(iv, 0), data) {
         Outcome::Done => DONE,
         Outcome::PartialBlock => MALFORMED,
     }

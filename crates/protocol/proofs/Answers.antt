@@ -2,11 +2,11 @@
 -- limits, the counters, permission, and the session left.
 -- Assumes nothing.
 use mathlib.Core.Path.{_≡_, refl}
-use mathlib.Core.Bool.{Bool, true, false, _&&_, _||_, not}
+use mathlib.Core.Bool.{Bool, true, false}
 use mathlib.Core.List.{List, [], _∷_, _++_, map}
-use mathlib.Core.Option.{Option, none, some}
-use Prim.Native.Nat.{ℕ, _+_}
-use lib.ListN.{length, replicate, take}
+use mathlib.Core.Option.{none}
+use Prim.Native.Nat.{ℕ}
+use lib.ListN.{replicate}
 use Rattle.octets.specs.Bytes.{Bytes, zeros}
 use Rattle.octets.specs.Choice.{if_then_else_}
 use Rattle.compare.specs.Same.{same}
@@ -21,20 +21,20 @@ use Rattle.field_lengths.specs.Lengths.{ciphertextLength, encryptedDataLength, 
 use Rattle.mac_input.specs.MacInput.{encodedHeader, commandMacInput, responseMacInput}
 use Rattle.validity.specs.Valid.{allZero, keysEnd, keysZero, mcvsZero, keepsPhase, valid, countsAsOpen}
 use Rattle.turn.specs.Turn.{isTurn}
-use Rattle.session.specs.Session.{closed, fresh}
 use Rattle.session.specs.declared.Side.{Side}
 use Rattle.session.specs.declared.Side.the-variants.{Host, Card}
 use Rattle.session.specs.declared.Phase.{Phase}
 use Rattle.session.specs.declared.Phase.the-variants.{Ready, Pending, Closed}
-use Rattle.suite.specs.declared.Suite.the-variants.{Cs2, Cs7}
+use Rattle.suite.specs.declared.Suite.the-variants.{Cs2}
 use Rattle.session.specs.declared.Session.{Session}
 use Rattle.refusal.specs.Refusal.{number, extra}
 use Rattle.ciphers.specs.Ciphers.{Ciphers}
-use Rattle.protocol.specs.Message.{CommandHeader, StatusWord, Message, Response}
-use Rattle.protocol.specs.Permission.{insPermitted, leNeed, dataNeed, commandPermitted, statusPermitted, commandWanted, responseWanted}
+use Rattle.answers.specs.Message.{CommandHeader, StatusWord, Response, CommandGiven}
+use Rattle.permission.specs.Permission.{insPermitted, leNeed, dataNeed, commandPermitted, statusPermitted, commandWanted, responseWanted}
 use Rattle.counter.specs.Counter.{bigEndian, commandCounter, responseCounter}
-use Rattle.protocol.specs.Answer.{Answer, refused, gave, Out, require_else_⨾_, _and-then_, afterRefusal, concluded, objectsOf, textOf}
-use Rattle.protocol.specs.Command.{CommandGiven, commandInput, wrapCommandChecks, unwrapCommandChecks, commandMac, commandAccepted, openCommand, cardUnwraps}
+use Rattle.answers.specs.Answer.{Answer, refused, gave, Out, require_else_⨾_, _and-then_, afterRefusal, concluded}
+use Rattle.protocol.specs.Reading.{objectsOf, textOf}
+use Rattle.protocol.specs.Command.{commandInput, wrapCommandChecks, unwrapCommandChecks, commandMac, commandAccepted, openCommand, cardUnwraps}
 use Rattle.protocol.specs.Response.{wrapResponseChecks, unwrapResponseChecks, responseMac, responseAccepted, openResponse, hostUnwraps}
 
 -- number and extra; nothing where the call is not refused

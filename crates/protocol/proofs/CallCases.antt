@@ -1,26 +1,22 @@
 -- The ways through a call: a refusal, or every test passed and the accepting outcome.
 -- Assumes nothing.
-use mathlib.Core.Path.{_≡_, refl, sym, ap, _∙_}
-use mathlib.Core.Bool.{Bool, true, false, _&&_}
+use mathlib.Core.Path.{_≡_, refl, ap}
+use mathlib.Core.Bool.{Bool, true, false}
 use mathlib.Core.Option.{Option, none, some}
 use Prim.Native.Nat.{ℕ, _+_, _≤_, _<_}
 use native.Mathlib.Omega.{arith}
 use borrow.Author.Tests.{leb-true, ltb-true}
-use lib.Dec.{leb, ltb}
 use lib.ListN.{length, take}
+use Rattle.answers.proofs.Required.{no-gift, require-gave}
 use Rattle.octets.proofs.Tests.{both}
 use Rattle.octets.specs.Bytes.{Bytes}
-use Rattle.compare.specs.Same.{same}
 use Rattle.compare.proofs.SameBytes.{same-eq}
 use Rattle.fields.specs.Field.{readField, ciphertextOf, coveredOf, macOf}
 use Rattle.fields.specs.declared.Objects.{Objects}
 use Rattle.fields.specs.declared.FieldRead.{FieldRead}
 use Rattle.fields.specs.declared.FieldRead.the-variants.{Read, Malformed as BadField, Missing}
-use Rattle.objects.specs.Objects.{commandObjects, responseObjects, commandField, responseField}
 use Rattle.field_lengths.specs.Lengths.{commandLength, responseLength}
 use Rattle.refusal.specs.declared.Refusal.{Refusal}
-use Rattle.refusal.specs.declared.Refusal.the-variants.{SessionClosed, OutOfTurn, NotPermitted, TooLong, CommandLimit, BufferTooSmall, Malformed, MissingObject, BadMac, BadPadding, Unprotected}
-use Rattle.transitions.specs.Transitions.{commandTaken, responseTaken}
 use Rattle.stored_keys.specs.StoredKeys.{keyIn}
 use Rattle.turn.specs.Turn.{sameSide, samePhase, isTurn}
 use Rattle.validity.specs.Valid.{countsAsOpen}
@@ -30,11 +26,12 @@ use Rattle.session.specs.declared.Phase.{Phase}
 use Rattle.session.specs.declared.Phase.the-variants.{Ready, Pending, Closed}
 use Rattle.session.specs.declared.Session.{Session}
 use Rattle.ciphers.specs.Ciphers.{Ciphers}
-use Rattle.protocol.specs.Message.{CommandHeader, StatusWord, Message, Command, Response, maxCommandData, maxResponseData, maxCommandField, maxResponseField, commandLimit}
-use Rattle.protocol.specs.Permission.{insPermitted, commandPermitted, statusPermitted, commandWanted, responseWanted}
+use Rattle.answers.specs.Message.{CommandHeader, StatusWord, Command, Response, maxCommandData, maxResponseData, maxCommandField, maxResponseField, commandLimit, CommandGiven}
+use Rattle.permission.specs.Permission.{insPermitted, commandPermitted, statusPermitted, commandWanted, responseWanted}
 use Rattle.counter.specs.Counter.{commandCounter, responseCounter}
-use Rattle.protocol.specs.Answer.{Answer, refused, gave, require_else_⨾_, _and-then_, Outcome, Out, afterRefusal, concluded, objectsOf, textOf, notGiven, given}
-use Rattle.protocol.specs.Command.{wrapCommandChecks, unwrapCommandChecks, CommandGiven, commandMac, commandCiphertext, commandWrapped, commandAccepted, headerRead, hostWraps, openCommand, cardUnwraps}
+use Rattle.answers.specs.Answer.{Answer, refused, gave, require_else_⨾_, _and-then_, Outcome, Out, concluded, notGiven, given}
+use Rattle.protocol.specs.Reading.{objectsOf, textOf}
+use Rattle.protocol.specs.Command.{wrapCommandChecks, unwrapCommandChecks, commandMac, commandCiphertext, commandWrapped, commandAccepted, headerRead, hostWraps, openCommand, cardUnwraps}
 use Rattle.protocol.specs.Response.{wrapResponseChecks, unwrapResponseChecks, responseMac, responseCiphertext, responseWrapped, responseAccepted, cardWraps, openResponse, hostUnwraps}
 
 -- ---- stages
@@ -50,14 +47,6 @@ pub then-case : {A B : Type 0} (Q : Answer B → Type 0) (a : Answer A) (more : 
 unfolding _and-then_
 then-case Q (refused r) more stop go = stop r refl
 then-case Q (gave x) more stop go = go x refl
-
-no-gift : {A : Type 0} {r : Refusal} {x : A} {P : Type 0} → refused r ≡ gave x → P
-no-gift e = let z : _≡_ {A = ℕ} 0 1 = cc in let o : ⊥ = omega arith in absurd o
-
-pub require-gave : {A : Type 0} (ok : Bool) (r : Refusal) (rest : Answer A) (x : A) → (require ok else r ⨾ rest) ≡ gave x → (ok ≡ true) × (rest ≡ gave x)
-unfolding require_else_⨾_
-require-gave true r rest x e = (refl, e)
-require-gave false r rest x e = no-gift e
 
 pub objects-gave : (read : FieldRead) (o : Objects) → objectsOf read ≡ gave o → read ≡ Read o
 unfolding objectsOf

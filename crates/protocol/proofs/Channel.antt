@@ -2,29 +2,29 @@
 -- Assumes nothing.
 use mathlib.Core.Path.{_≡_, refl, sym, ap, _∙_}
 use mathlib.Core.Logic.{_⊎_, inl, inr}
-use mathlib.Core.List.{List, [], _∷_, _++_, append-assoc, append-nil, List·Memᴰ}
+use mathlib.Core.List.{List, [], _∷_, _++_, append-assoc, List·Memᴰ}
 use mathlib.Core.Option.{some}
 use mathlib.Core.Bool.{Bool, true, false}
 use Prim.Native.Nat.{ℕ, zero, suc, _+_, _*_, _/_, _%_, _≤_, _<_}
 use native.Mathlib.Omega.{arith}
 use lib.Dec.{eqb}
-use lib.ListN.{length, drop, length-append, length-drop, take, getD}
+use lib.ListN.{length, drop, length-append, length-drop, take}
 use lib.Seq.{append-snoc, take-at}
-use Rattle.octets.specs.Bytes.{Bytes, IsBytes, zeros}
+use Rattle.octets.specs.Bytes.{Bytes, IsBytes}
 use Rattle.octets.specs.Choice.{if_then_else_}
 use Rattle.padding.specs.Padding.{paddedLength}
 use Rattle.field_lengths.specs.Lengths.{ciphertextLength}
-use Rattle.mac_input.specs.MacInput.{encodedHeader, commandMacInput, responseMacInput}
+use Rattle.mac_input.specs.MacInput.{commandMacInput, responseMacInput}
 use Rattle.field_laws.specs.Written.{WholeBlocks}
 use Rattle.stored_keys.specs.StoredKeys.{Keys}
 use Rattle.ciphers.specs.Ciphers.{Ciphers, Laws, IsKey, IsCounter}
-use Rattle.protocol.specs.Message.{CommandHeader, StatusWord, Message}
+use Rattle.answers.specs.Message.{Message}
 use Rattle.counter.specs.Counter.{bigEndian, commandCounter, responseCounter}
 use Rattle.protocol.specs.Command.{commandInput}
-use Rattle.protocol.specs.Transcript.{Entry, add, messages, inputs, Direction, commands, responses, chaining, encrypted, wrapped}
+use Rattle.protocol.specs.Transcript.{Entry, messages, inputs, Direction, commands, responses, chaining, encrypted, wrapped}
 use Rattle.protocol.specs.Agreement.{Collision}
 use Rattle.ciphers.proofs.ByteLists.{bytes-nil, bytes-cons, bytes-append, bytes-drop}
-use Rattle.protocol.proofs.Logs.{append-cut, member, Chained, chained-snoc, Next, place, messages-append, length-messages}
+use Rattle.protocol.proofs.Logs.{member, Chained, chained-snoc, Next, place, messages-append, length-messages}
 
 -- ---- what is asked of a direction
 

@@ -4,27 +4,26 @@ use mathlib.Core.Path.{_≡_, refl, sym, ap, ap₂, _∙_, subst}
 use mathlib.Core.Bool.{Bool, true, false, _&&_}
 use mathlib.Core.List.{[]}
 use mathlib.Core.Option.{some}
-use Prim.Native.Nat.{ℕ, _+_, _*_, _/_, _%_, _<_, _≤_}
+use Prim.Native.Nat.{ℕ, _+_, _*_, _/_, _<_, _≤_}
 use native.Mathlib.Omega.{arith}
-use borrow.Author.Tests.{eq-eqb, ne-eqb, lt-ltb, le-ltb, le-leb, eqb-true, eqb-false}
-use lib.Dec.{eqb, leb, ltb}
+use borrow.Author.Tests.{lt-ltb, le-ltb, le-leb, eqb-true, eqb-false}
+use lib.Dec.{eqb, ltb}
 use lib.ListN.{length, take}
 use lib.Seq.{length-take-le}
 use Rattle.octets.proofs.Tests.{both}
 use Rattle.octets.specs.Bytes.{Bytes, IsBytes}
 use Rattle.octets.specs.Choice.{if_then_else_}
 use Rattle.padding.specs.Padding.{paddedLength}
-use Rattle.compare.specs.Same.{same}
 use Rattle.compare.proofs.SameBytes.{same-self}
-use Rattle.fields.specs.Field.{readField, ciphertextOf, coveredOf, macOf}
+use Rattle.fields.specs.Field.{ciphertextOf, coveredOf}
 use Rattle.fields.specs.declared.Objects.{Objects}
-use Rattle.fields.specs.declared.FieldRead.the-variants.{Read}
 use Rattle.objects.specs.Objects.{commandObjects, responseObjects, commandField, responseField}
 use Rattle.mac_input.specs.MacInput.{responseMacInput}
 use Rattle.field_lengths.specs.Lengths.{ciphertextLength, encryptedDataLength, commandLength, responseLength}
 use Rattle.field_lengths.proofs.LengthBounds.{data-most}
 use Rattle.objects.proofs.FieldLengths.{length-commandField, length-responseField}
-use Rattle.field_laws.specs.Written.{suits, Suits, WholeBlocks, ReadsBack}
+use Rattle.wanted.specs.Wanted.{suits}
+use Rattle.field_laws.specs.Written.{Suits, WholeBlocks, ReadsBack}
 use Rattle.field_laws.proofs.CoveredWritten.{right-size}
 use Rattle.field_laws.proofs.ReadBack.{read-command, read-response}
 use Rattle.refusal.specs.declared.Refusal.{Refusal}
@@ -42,11 +41,12 @@ use Rattle.suite.specs.declared.Suite.the-variants.{Cs2, Cs7}
 use Rattle.session.specs.declared.Session.{Session}
 use Rattle.ciphers.specs.Ciphers.{Ciphers, Laws, IsKey}
 use Rattle.ciphers.specs.Aes.{aesCiphers}
-use Rattle.protocol.specs.Message.{CommandHeader, StatusWord, Message, Command, Response, maxCommandData, maxResponseData, commandLimit}
-use Rattle.protocol.specs.Permission.{insPermitted, dataNeed, leNeed, commandPermitted, statusPermitted, commandWanted, responseWanted}
+use Rattle.answers.specs.Message.{CommandHeader, Command, Response, maxCommandData, maxResponseData, commandLimit}
+use Rattle.permission.specs.Permission.{insPermitted, dataNeed, leNeed, commandPermitted, statusPermitted, commandWanted, responseWanted}
 use Rattle.counter.specs.Counter.{commandCounter, responseCounter}
-use Rattle.protocol.specs.Answer.{Answer, refused, gave, require_else_⨾_, _and-then_, Outcome, Out, concluded, objectsOf, textOf}
-use Rattle.protocol.specs.Command.{CommandGiven, wrapCommandChecks, unwrapCommandChecks, commandInput, commandMac, commandCiphertext, commandWrapped, commandAccepted, headerRead, hostWraps, openCommand, cardUnwraps}
+use Rattle.answers.specs.Answer.{Answer, gave, require_else_⨾_, _and-then_, concluded}
+use Rattle.protocol.specs.Reading.{objectsOf, textOf}
+use Rattle.protocol.specs.Command.{wrapCommandChecks, unwrapCommandChecks, commandInput, commandMac, commandCiphertext, commandWrapped, commandAccepted, headerRead, hostWraps, openCommand, cardUnwraps}
 use Rattle.protocol.specs.Response.{wrapResponseChecks, unwrapResponseChecks, responseMac, responseCiphertext, responseWrapped, responseAccepted, cardWraps, openResponse, hostUnwraps}
 use Rattle.protocol.specs.HonestDelivery.{InStep, Keyed, CommandDelivered, DeliversCommands, ResponseDelivered, DeliversResponses, OpensInStep}
 use Rattle.validity.proofs.KeepsTheRules.{opening-served, command-served, response-served}

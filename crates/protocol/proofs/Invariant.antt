@@ -1,22 +1,19 @@
 -- What links the two sessions and the transcript; and that every call keeps it, or is an acceptance that breaks the MAC.
 -- Assumes nothing.
-use mathlib.Core.Path.{_≡_, refl, sym, ap, ap₂, _∙_, subst}
+use mathlib.Core.Path.{_≡_, refl, sym, ap, ap₂, _∙_}
 use mathlib.Core.Logic.{_⊎_, inl, inr}
-use mathlib.Core.Bool.{Bool, true, false, _&&_, _||_}
+use mathlib.Core.Bool.{true, _&&_}
 use mathlib.Core.List.{List, [], _∷_, _++_, append-nil, List·Memᴰ}
 use mathlib.Core.Option.{some}
-use Prim.Native.Nat.{ℕ, suc, _+_, _≤_, _<_}
-use native.Mathlib.Numerals.{add-one}
+use Prim.Native.Nat.{ℕ, suc, _+_, _≤_}
 use native.Mathlib.Omega.{arith}
 use borrow.Author.Tests.{leb-true}
-use lib.Dec.{eqb, leb}
+use lib.Dec.{leb}
 use lib.ListN.{length, take, length-append}
 use lib.Seq.{append-snoc}
 use Rattle.octets.proofs.Tests.{both}
-use Rattle.octets.specs.Bytes.{Bytes, IsBytes, zeros}
-use Rattle.octets.specs.Choice.{if_then_else_}
-use Rattle.fields.specs.Field.{readField, ciphertextOf, coveredOf, macOf}
-use Rattle.wanted.specs.declared.Second.the-variants.{Le, Status}
+use Rattle.octets.specs.Bytes.{Bytes, IsBytes}
+use Rattle.fields.specs.Field.{readField, ciphertextOf, coveredOf}
 use Rattle.fields.specs.declared.Objects.{Objects}
 use Rattle.fields.specs.declared.FieldRead.the-variants.{Read}
 use Rattle.objects.specs.Objects.{commandObjects, responseObjects, commandField, responseField}
@@ -25,30 +22,25 @@ use Rattle.field_laws.specs.Covered.{dataIn, secondIn, sw1In, sw2In}
 use Rattle.field_laws.specs.Written.{WholeBlocks}
 use Rattle.field_laws.proofs.Determined.{determined}
 use Rattle.field_laws.proofs.CoveredWritten.{command-data, command-le, response-data, response-status}
-use Rattle.refusal.specs.Refusal.{number}
-use Rattle.refusal.specs.declared.Refusal.{Refusal}
 use Rattle.session.specs.Session.{closed}
 use Rattle.transitions.specs.Transitions.{commandTaken, responseTaken}
 use Rattle.stored_keys.specs.StoredKeys.{keyIn, Keys}
-use Rattle.turn.specs.Turn.{isTurn}
 use Rattle.validity.specs.Valid.{keepsPhase, valid, isOpen, countsAsOpen}
 use Rattle.session.specs.declared.Side.{Side}
 use Rattle.session.specs.declared.Side.the-variants.{Host, Card}
-use Rattle.session.specs.declared.Phase.{Phase}
-use Rattle.session.specs.declared.Phase.the-variants.{Ready, Pending, Closed}
+use Rattle.session.specs.declared.Phase.the-variants.{Ready, Pending}
 use Rattle.session.specs.declared.Session.{Session}
 use Rattle.ciphers.specs.Ciphers.{Ciphers, Laws, IsKey}
-use Rattle.protocol.specs.Message.{CommandHeader, StatusWord, Message, Command, Response}
-use Rattle.protocol.specs.Permission.{commandWanted, responseWanted}
+use Rattle.answers.specs.Message.{CommandHeader, StatusWord, Command, Response, CommandGiven}
+use Rattle.permission.specs.Permission.{commandWanted, responseWanted}
 use Rattle.counter.specs.Counter.{commandCounter, responseCounter}
-use Rattle.protocol.specs.Answer.{Answer, refused, gave, Out, afterRefusal}
-use Rattle.protocol.specs.Command.{CommandGiven, commandInput, commandMac, commandCiphertext, commandWrapped, commandAccepted, headerRead}
+use Rattle.protocol.specs.Command.{commandInput, commandMac, commandCiphertext, commandWrapped, commandAccepted, headerRead}
 use Rattle.protocol.specs.Response.{responseMac, responseCiphertext, responseWrapped, responseAccepted}
-use Rattle.protocol.specs.Transcript.{Call, wrapCommand, unwrapCommand, wrapResponse, unwrapResponse, close, sideOf, Gives, does, Entry, inputs, Transcript, Direction, commands, responses, chaining, encrypted, wrapped, received, commandRead, responseRead, acceptedCommand, acceptedResponse, noted, entered, State, sessionAt, moved, step}
-use Rattle.protocol.specs.Agreement.{Written, Collision, MacBreak, Breaks, BreaksIn, CallBytes}
+use Rattle.protocol.specs.Transcript.{wrapCommand, unwrapCommand, wrapResponse, unwrapResponse, Entry, inputs, Transcript, Direction, commands, responses, chaining, encrypted, wrapped, received, commandRead, responseRead, acceptedCommand, acceptedResponse, noted}
+use Rattle.protocol.specs.Agreement.{Written, Collision, Breaks}
 use Rattle.protocol.proofs.Logs.{append-cut, chaining-snoc}
 use Rattle.protocol.proofs.Channel.{Channel, command-lawful, response-lawful, channel-wrapped, channel-accepted}
-use Rattle.protocol.proofs.CallCases.{turn-is, MayWrapCommand, MayWrapResponse, CommandRead, ResponseRead, host-wraps, card-wraps, card-unwraps, host-unwraps}
+use Rattle.protocol.proofs.CallCases.{turn-is, MayWrapCommand, MayWrapResponse, CommandRead, ResponseRead}
 
 pub record AreKeys (K : Keys) : Type 0 where
   pub enc : IsKey (K .enc)
@@ -110,14 +102,6 @@ open-count s e =
 pub closed-shut : {P : Type 0} (s : Session) → countsAsOpen (closed s) ≡ true → P
 unfolding countsAsOpen
 closed-shut s e = let z : _≡_ {A = ℕ} 0 1 = cc in let o : ⊥ = omega arith in absurd o
-
-pub after-refusal : (Q : Session → Type 0) (s : Session) (r : Refusal) → Q s → Q (closed s) → Q (afterRefusal s r)
-unfolding afterRefusal
-after-refusal Q s r stays shut = go (eqb (number r) 9 || eqb (number r) 10)
-  where
-    go : (t : Bool) → Q (if t then closed s else s)
-    go true = shut
-    go false = stays
 
 -- ---- fields handed out
 

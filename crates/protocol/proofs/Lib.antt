@@ -1,5 +1,5 @@
 pub mod Answers
-pub mod Examples
+pub mod Exceptions
 pub mod Logs
 pub mod Channel
 pub mod CallCases
@@ -9,3 +9,4 @@ pub mod Refused
 pub mod Delivered
 pub mod RulesKept
 pub mod Theorems
+pub mod KeysTyped

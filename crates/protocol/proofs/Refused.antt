@@ -1,18 +1,14 @@
 -- Demand 1, proved: a refusal's number is in its call's order, and it leaves the buffer and, but for 9 and 10, the session.
 -- Assumes nothing.
-use mathlib.Core.Path.{_≡_, refl, sym, ap, _∙_, subst}
+use mathlib.Core.Path.{_≡_, refl, ap, _∙_, subst}
 use mathlib.Core.Logic.{_⊎_, inl, inr}
-use mathlib.Core.Bool.{Bool, true, false, _||_}
+use mathlib.Core.Bool.{Bool, true, false}
 use mathlib.Core.List.{List, [], _∷_, List·Memᴰ, List·Memᴰ·head, List·Memᴰ·tail}
 use mathlib.Core.Option.{Option, none, some}
 use Prim.Native.Nat.{ℕ}
 use native.Mathlib.Omega.{arith}
 use borrow.Author.Tests.{eq-eqb, ne-eqb}
-use lib.Dec.{eqb}
-use lib.ListN.{length}
 use Rattle.octets.specs.Bytes.{Bytes}
-use Rattle.octets.specs.Choice.{if_then_else_}
-use Rattle.fields.specs.Field.{readField, ciphertextOf}
 use Rattle.fields.specs.declared.FieldRead.{FieldRead}
 use Rattle.fields.specs.declared.FieldRead.the-variants.{Read, Malformed as BadField, Missing}
 use Rattle.fields.specs.declared.Objects.{Objects}
@@ -20,16 +16,14 @@ use Rattle.refusal.specs.Refusal.{number}
 use Rattle.refusal.specs.declared.Refusal.{Refusal}
 use Rattle.refusal.specs.declared.Refusal.the-variants.{Malformed, MissingObject, BadPadding}
 use Rattle.session.specs.Session.{closed}
-use Rattle.stored_keys.specs.StoredKeys.{keyIn}
 use Rattle.session.specs.declared.Session.{Session}
 use Rattle.ciphers.specs.Ciphers.{Ciphers}
-use Rattle.protocol.specs.Permission.{commandWanted, responseWanted}
-use Rattle.counter.specs.Counter.{commandCounter, responseCounter}
-use Rattle.protocol.specs.Answer.{Answer, refused, gave, require_else_⨾_, _and-then_, Outcome, Out, afterRefusal, concluded, objectsOf, textOf, buffer}
+use Rattle.answers.specs.Answer.{Answer, refused, gave, require_else_⨾_, _and-then_, Outcome, afterRefusal, concluded, buffer}
+use Rattle.protocol.specs.Reading.{objectsOf, textOf}
 use Rattle.protocol.specs.Command.{wrapCommandChecks, unwrapCommandChecks, hostWraps, openCommand, cardUnwraps}
 use Rattle.protocol.specs.Response.{wrapResponseChecks, unwrapResponseChecks, cardWraps, openResponse, hostUnwraps}
-use Rattle.protocol.specs.Transcript.{Call, wrapCommand, unwrapCommand, wrapResponse, unwrapResponse, close, Gives, does}
-use Rattle.protocol.specs.RefusalKeeps.{order, writes, IsClosed, Keeps, RefusalKeeps}
+use Rattle.protocol.specs.Transcript.{Call, wrapCommand, unwrapCommand, wrapResponse, unwrapResponse, close, does}
+use Rattle.protocol.specs.RefusalKeeps.{order, writes, IsClosed, RefusalKeeps}
 
 -- ---- the refusals of a stage are among those numbers
 

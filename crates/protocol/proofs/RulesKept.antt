@@ -3,7 +3,6 @@
 use mathlib.Core.Path.{_≡_}
 use mathlib.Core.Bool.{true}
 use Rattle.octets.proofs.Tests.{both}
-use Rattle.session.specs.Session.{closed}
 use Rattle.session.specs.declared.Side.the-variants.{Host, Card}
 use Rattle.session.specs.declared.Phase.the-variants.{Ready, Pending}
 use Rattle.session.specs.declared.Session.{Session}
@@ -11,12 +10,12 @@ use Rattle.validity.specs.Valid.{valid, isOpen, countsAsOpen}
 use Rattle.validity.proofs.KeepsTheRules.{closed-valid, command-served, response-served}
 use Rattle.refusal.specs.declared.Refusal.{Refusal}
 use Rattle.ciphers.specs.Ciphers.{Ciphers}
-use Rattle.protocol.specs.Answer.{Out, afterRefusal}
+use Rattle.answers.specs.Answer.{Out, afterRefusal}
 use Rattle.protocol.specs.Command.{commandWrapped, commandAccepted}
 use Rattle.protocol.specs.Response.{responseWrapped, responseAccepted}
-use Rattle.protocol.specs.Transcript.{Call, wrapCommand, unwrapCommand, wrapResponse, unwrapResponse, close, Gives, does}
+use Rattle.protocol.specs.Transcript.{Call, wrapCommand, unwrapCommand, wrapResponse, unwrapResponse, close, does}
 use Rattle.protocol.proofs.CallCases.{turn-is, host-wraps, card-wraps, card-unwraps, host-unwraps}
-use Rattle.protocol.proofs.Invariant.{after-refusal}
+use Rattle.answers.proofs.Refusals.{after-refusal}
 
 open-valid : (s : Session) → countsAsOpen s ≡ true → valid s ≡ true
 unfolding countsAsOpen

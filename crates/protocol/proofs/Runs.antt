@@ -1,23 +1,18 @@
 -- Every call of a run keeps the invariant, or breaks the MAC; so demand 3 holds of every run.
 -- Assumes nothing.
-use mathlib.Core.Path.{_≡_, refl, sym, ap, _∙_}
+use mathlib.Core.Path.{_≡_, refl, sym, _∙_}
 use mathlib.Core.Logic.{_⊎_, inl, inr}
-use mathlib.Core.Bool.{Bool, true, false, _&&_}
+use mathlib.Core.Bool.{Bool, true, false}
 use mathlib.Core.List.{List, [], _∷_}
-use Prim.Native.Nat.{ℕ, zero, suc, _+_, _-_, _≤_}
+use Prim.Native.Nat.{ℕ, zero, suc, _-_}
 use native.Mathlib.Omega.{arith}
-use borrow.Author.Tests.{eqb-true}
-use lib.Dec.{eqb}
 use lib.ListN.{length, take}
 use lib.Seq.{take-at}
-use Rattle.octets.proofs.Tests.{both}
 use Rattle.octets.specs.Bytes.{Bytes, zeros}
-use Rattle.octets.specs.Choice.{if_then_else_}
 use Rattle.refusal.specs.declared.Refusal.{Refusal}
 use Rattle.suite.specs.Suites.{keyLength, suiteOf}
 use Rattle.session.specs.Session.{fresh, closed}
-use Rattle.stored_keys.specs.StoredKeys.{stored, keyIn, KeysOfBytes, Keys, keysFit}
-use Rattle.validity.specs.Valid.{countsAsOpen}
+use Rattle.stored_keys.specs.StoredKeys.{stored, KeysOfBytes, Keys, keysFit}
 use Rattle.session.specs.Opening.{openSuite, opening}
 use Rattle.stored_keys.proofs.StoredKeys.{fitting}
 use Rattle.session.specs.declared.Side.{Side}
@@ -28,15 +23,15 @@ use Rattle.suite.specs.declared.Suite.the-variants.{Cs2, Cs7}
 use Rattle.suite.specs.declared.SuiteNumber.{SuiteNumber}
 use Rattle.suite.specs.declared.SuiteNumber.the-variants.{Known, Unknown}
 use Rattle.session.specs.declared.Opening.the-variants.{Opened as Done, Refused}
-use Rattle.session.specs.declared.Opened.{Opened}
 use Rattle.session.specs.declared.Session.{Session}
-use Rattle.ciphers.specs.Ciphers.{Ciphers, Laws, IsKey}
-use Rattle.protocol.specs.Answer.{Out, afterRefusal}
+use Rattle.ciphers.specs.Ciphers.{Ciphers, Laws}
+use Rattle.answers.specs.Answer.{Out, afterRefusal}
 use Rattle.protocol.specs.Transcript.{Call, wrapCommand, unwrapCommand, wrapResponse, unwrapResponse, close, sideOf, Gives, does, Transcript, commands, responses, lastMac, chaining, noted, entered, State, sessionAt, moved, step, run, start}
 use Rattle.protocol.specs.Agreement.{Agrees, BreaksIn, Excepted, CallBytes, AllBytes, Agreement}
 use Rattle.protocol.proofs.Channel.{channel-empty, channel-length, channel-messages}
 use Rattle.protocol.proofs.CallCases.{turn-is, host-wraps, card-wraps, card-unwraps, host-unwraps}
-use Rattle.protocol.proofs.Invariant.{AreKeys, Live, Inv, ready-pending, host-card, closed-shut, after-refusal, command-wrapped, response-wrapped, command-accepted, response-accepted}
+use Rattle.answers.proofs.Refusals.{after-refusal}
+use Rattle.protocol.proofs.Invariant.{AreKeys, Live, Inv, ready-pending, host-card, closed-shut, command-wrapped, response-wrapped, command-accepted, response-accepted}
 
 module _ (C : Ciphers) (K : Keys) where
   abbrev Invariant : State → Type 0

@@ -12,10 +12,8 @@ use Rattle.stored_keys.specs.StoredKeys.{KeysOfBytes, Keys}
 use Rattle.session.specs.Opening.{opening}
 use Rattle.session.specs.declared.Side.the-variants.{Host, Card}
 use Rattle.session.specs.declared.Opening.the-variants.{Opened as Done}
-use Rattle.session.specs.declared.Session.{Session}
 use Rattle.ciphers.specs.Ciphers.{Ciphers}
-use Rattle.protocol.specs.Message.{CommandHeader, StatusWord, Message}
-use Rattle.protocol.specs.Answer.{Answer, refused, gave}
+use Rattle.answers.specs.Answer.{Answer, refused, gave}
 use Rattle.protocol.specs.Transcript.{Call, wrapCommand, unwrapCommand, wrapResponse, unwrapResponse, close, sideOf, Gives, does, Entry, messages, inputs, Transcript, Direction, commands, responses, encrypted, commandRead, responseRead, acceptedCommand, acceptedResponse, State, sessionAt, step, run, start}
 
 -- ---- what holds of a transcript

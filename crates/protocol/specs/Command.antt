@@ -1,5 +1,4 @@
 -- Document 01: the host wraps a command, and the card unwraps it. Assumes nothing.
-use mathlib.Core.Bool.{Bool}
 use Prim.Native.Nat.{ℕ, _+_}
 use lib.Dec.{leb, ltb}
 use lib.ListN.{length, take}
@@ -19,10 +18,11 @@ use Rattle.session.specs.declared.Side.the-variants.{Host, Card}
 use Rattle.session.specs.declared.Phase.the-variants.{Ready}
 use Rattle.session.specs.declared.Session.{Session}
 use Rattle.ciphers.specs.Ciphers.{Ciphers}
-use Rattle.protocol.specs.Message.{CommandHeader, Message, Command, maxCommandData, maxCommandField, commandLimit}
-use Rattle.protocol.specs.Permission.{insPermitted, commandPermitted, commandWanted}
+use Rattle.answers.specs.Message.{CommandHeader, Command, maxCommandData, maxCommandField, commandLimit, CommandGiven}
+use Rattle.permission.specs.Permission.{insPermitted, commandPermitted, commandWanted}
 use Rattle.counter.specs.Counter.{commandCounter}
-use Rattle.protocol.specs.Answer.{Answer, gave, require_else_⨾_, _and-then_, Outcome, Out, concluded, objectsOf, textOf}
+use Rattle.answers.specs.Answer.{Answer, gave, require_else_⨾_, _and-then_, Outcome, Out, concluded}
+use Rattle.protocol.specs.Reading.{objectsOf, textOf}
 
 -- what the MAC of a command is computed over: its chaining value, its encoded header, and the field's bytes before '8E'
 unfoldable pub commandInput : Bytes → CommandHeader → Bytes → Bytes
@@ -48,11 +48,6 @@ unwrapCommandChecks s ins n =
     require leb n maxCommandField else TooLong ⨾
     require ltb (s .count) commandLimit else CommandLimit ⨾
     gave tt
-
--- what an unwrap gives
-pub record CommandGiven : Type 0 where
-  pub payload : Bytes
-  pub le : Bool
 
 -- header and Le of a command that is read
 abbrev pub headerRead : ℕ → ℕ → ℕ → Objects → CommandHeader

@@ -15,10 +15,10 @@ use Rattle.session.specs.declared.Phase.{Phase}
 use Rattle.session.specs.declared.Phase.the-variants.{Ready, Pending}
 use Rattle.session.specs.declared.Session.{Session}
 use Rattle.ciphers.specs.Ciphers.{Ciphers, IsKey}
-use Rattle.protocol.specs.Message.{Message, Command, Response, maxCommandData, maxResponseData, commandLimit}
-use Rattle.protocol.specs.Permission.{commandPermitted, statusPermitted}
-use Rattle.protocol.specs.Answer.{gave, Out}
-use Rattle.protocol.specs.Command.{CommandGiven, hostWraps, cardUnwraps}
+use Rattle.answers.specs.Message.{Command, Response, maxCommandData, maxResponseData, commandLimit}
+use Rattle.permission.specs.Permission.{commandPermitted, statusPermitted}
+use Rattle.answers.specs.Answer.{gave}
+use Rattle.protocol.specs.Command.{hostWraps, cardUnwraps}
 use Rattle.protocol.specs.Response.{cardWraps, hostUnwraps}
 
 -- two sessions in step: a host's and a card's, open, in one phase, with the same suite, keys, count and chaining values

@@ -1,6 +1,4 @@
-pub mod Message
-pub mod Permission
-pub mod Answer
+pub mod Reading
 pub mod Command
 pub mod Response
 pub mod Transcript

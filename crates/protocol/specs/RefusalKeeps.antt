@@ -11,7 +11,7 @@ use Rattle.refusal.specs.declared.Refusal.{Refusal}
 use Rattle.session.specs.declared.Phase.the-variants.{Closed}
 use Rattle.session.specs.declared.Session.{Session}
 use Rattle.ciphers.specs.Ciphers.{Ciphers}
-use Rattle.protocol.specs.Answer.{refused, buffer}
+use Rattle.answers.specs.Answer.{refused, buffer}
 use Rattle.protocol.specs.Transcript.{Call, wrapCommand, unwrapCommand, wrapResponse, unwrapResponse, close, Gives, does}
 
 -- the refusals of each call; that they come in document 01's order is in the calls' definitions, and computed in proofs/Answers

@@ -1,5 +1,4 @@
 -- Document 01: the card wraps a response, and the host unwraps it. Assumes nothing.
-use mathlib.Core.Bool.{Bool}
 use Prim.Native.Nat.{ℕ}
 use lib.Dec.{leb, ltb}
 use lib.ListN.{length, take}
@@ -19,10 +18,11 @@ use Rattle.session.specs.declared.Side.the-variants.{Host, Card}
 use Rattle.session.specs.declared.Phase.the-variants.{Pending}
 use Rattle.session.specs.declared.Session.{Session}
 use Rattle.ciphers.specs.Ciphers.{Ciphers}
-use Rattle.protocol.specs.Message.{StatusWord, Message, Response, maxResponseData, maxResponseField}
-use Rattle.protocol.specs.Permission.{statusPermitted, responseWanted}
+use Rattle.answers.specs.Message.{StatusWord, Response, maxResponseData, maxResponseField}
+use Rattle.permission.specs.Permission.{statusPermitted, responseWanted}
 use Rattle.counter.specs.Counter.{responseCounter}
-use Rattle.protocol.specs.Answer.{Answer, gave, require_else_⨾_, _and-then_, Outcome, Out, concluded, objectsOf, textOf}
+use Rattle.answers.specs.Answer.{Answer, gave, require_else_⨾_, _and-then_, Outcome, Out, concluded}
+use Rattle.protocol.specs.Reading.{objectsOf, textOf}
 
 -- the tests of a wrap, of a response with n bytes of data
 unfoldable pub wrapResponseChecks : Session → StatusWord → ℕ → ℕ → Answer (Unit {0})

@@ -17,11 +17,11 @@ use Rattle.session.specs.declared.Side.{Side}
 use Rattle.session.specs.declared.Side.the-variants.{Host, Card}
 use Rattle.session.specs.declared.Session.{Session}
 use Rattle.ciphers.specs.Ciphers.{Ciphers}
-use Rattle.protocol.specs.Message.{CommandHeader, StatusWord, Message, Command, Response, maxCommandData, maxResponseData}
-use Rattle.protocol.specs.Permission.{commandWanted, responseWanted}
+use Rattle.answers.specs.Message.{CommandHeader, StatusWord, Message, Command, Response, maxCommandData, maxResponseData, CommandGiven}
+use Rattle.permission.specs.Permission.{commandWanted, responseWanted}
 use Rattle.counter.specs.Counter.{commandCounter, responseCounter}
-use Rattle.protocol.specs.Answer.{Answer, refused, gave, Out}
-use Rattle.protocol.specs.Command.{CommandGiven, commandInput, headerRead, hostWraps, cardUnwraps}
+use Rattle.answers.specs.Answer.{Answer, refused, gave, Out}
+use Rattle.protocol.specs.Command.{commandInput, headerRead, hostWraps, cardUnwraps}
 use Rattle.protocol.specs.Response.{cardWraps, hostUnwraps}
 
 -- ---- calls

@@ -10,7 +10,7 @@ ghost use mathlib.Core.Path.{_≡_};
 ghost use Prim.Native.Nat.{_≤_};
 ghost use lib.ListN.{length};
 ghost use Rattle.octets.specs.Write.{put};
-ghost use Rattle.protocol.specs.Message.{status};
+ghost use Rattle.answers.specs.Message.{status};
 ghost use Rattle.response_chaining.specs.Reassembly.{dataOf, statusOf, isMore, empty, total, taken, reassembleResponse, reassemblyBuffer, getResponse};
 
 // What a caller starts with.

@@ -2,7 +2,6 @@
 -- the length needed, what is announced, and the chain that is left.
 -- Assumes nothing.
 use mathlib.Core.Path.{_≡_, refl}
-use mathlib.Core.Bool.{_&&_, _||_, not}
 use mathlib.Core.List.{List, [], _∷_, _++_}
 use Prim.Native.Nat.{ℕ, _-_}
 use lib.ListN.{length, drop}
@@ -10,9 +9,9 @@ use Rattle.octets.specs.Bytes.{Bytes, zeros}
 use Rattle.octets.specs.Write.{put}
 use Rattle.refusal.specs.Refusal.{number, extra}
 use Rattle.refusal.specs.declared.Refusal.the-variants.{NotPermitted}
-use Rattle.protocol.specs.Message.{StatusWord, status}
-use Rattle.protocol.specs.Permission.{statusPermitted}
-use Rattle.protocol.specs.Answer.{Answer, refused, gave, require_else_⨾_}
+use Rattle.answers.specs.Message.{StatusWord, status}
+use Rattle.permission.specs.Permission.{statusPermitted}
+use Rattle.answers.specs.Answer.{Answer, refused, gave, require_else_⨾_}
 use Rattle.response_chaining.specs.Fragment.{asked, announced, fragmentData, fragmentStatus, next, fragment, fragmentResponse, fragmentAnswer}
 use Rattle.response_chaining.specs.Reassembly.{isMore, wellFormed, chain, empty, possible, reassemblyChecks, taken, concluded, reassembleResponse, written, reassemblyBuffer, getResponse}
 use Rattle.response_chaining.specs.declared.ResponseFragmentAnswer.the-variants.{Fragment, Refused as NotFragmented}

@@ -11,9 +11,9 @@ use lib.Dec.{leb}
 use Rattle.octets.specs.Bytes.{Bytes}
 use Rattle.octets.specs.Choice.{if_then_else_}
 use Rattle.refusal.specs.declared.Refusal.the-variants.{TooLong, BufferTooSmall, Malformed, BrokenChain}
-use Rattle.protocol.specs.Message.{StatusWord, maxResponseField}
-use Rattle.protocol.specs.Answer.{Answer, refused, gave, require_else_⨾_}
-use Rattle.protocol.proofs.CallCases.{require-gave}
+use Rattle.answers.specs.Message.{StatusWord, maxResponseField}
+use Rattle.answers.specs.Answer.{Answer, refused, gave, require_else_⨾_}
+use Rattle.answers.proofs.Required.{require-gave}
 use Rattle.response_chaining.specs.Fragment.{moreSw1}
 use Rattle.response_chaining.specs.Reassembly.{statusOf, isMore, wellFormed, chain, possible, total, reassemblyChecks, taken, concluded, reassembleResponse}
 use Rattle.response_chaining.specs.Chains.{Reached, none, more, ReachedArePossible, PossibleAreReached, OthersAreRefused}

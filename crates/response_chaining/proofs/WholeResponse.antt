@@ -2,23 +2,22 @@
 -- that was announced asks for the next.
 -- Assumes nothing.
 use mathlib.Core.Path.{_≡_, refl, sym, ap, ap₂, _∙_}
-use mathlib.Core.Bool.{Bool, true, false, not}
+use mathlib.Core.Bool.{Bool, true, false}
 use mathlib.Core.List.{List, [], _∷_, _++_}
 use Prim.Native.Nat.{ℕ, zero, suc, _+_, _*_, _-_, _≤_, _<_}
 use native.Mathlib.Nat.{add-zero, zero-add, add-suc, suc-add, suc-mul}
 use native.Mathlib.Omega.{arith}
 use borrow.Author.Tests.{eq-eqb, ne-eqb, le-leb, lt-leb, not-true}
-use lib.Dec.{eqb, leb}
+use lib.Dec.{eqb}
 use lib.ListN.{length, take, drop, length-drop, take-append-drop}
 use lib.Seq.{length-take-le, take-all, take-add}
 use Rattle.octets.specs.Bytes.{Bytes, tabulate}
-use Rattle.octets.specs.Choice.{if_then_else_}
 use Rattle.octets.specs.Write.{over, put}
 use Rattle.octets.proofs.ByteStrings.{by-test}
 use Rattle.octets.proofs.Tabulate.{tabulate-ext}
 use Rattle.octets.proofs.Writing.{over-nil, length-over, put-over}
-use Rattle.protocol.specs.Message.{StatusWord, status, maxResponseField}
-use Rattle.protocol.specs.Permission.{statusPermitted}
+use Rattle.answers.specs.Message.{StatusWord, status, maxResponseField}
+use Rattle.permission.specs.Permission.{statusPermitted}
 use Rattle.parts.specs.Parts.{ceiling}
 use Rattle.parts.proofs.Ceiling.{starts-within, below-ceiling, ends-with-last}
 use Rattle.response_chaining.specs.Fragment.{longestField, moreSw1, asked, announced, fragmentData, fragmentStatus, next, fragment}
@@ -27,7 +26,7 @@ use Rattle.response_chaining.specs.Chains.{Reassembled, leAfter, request
 use Rattle.response_chaining.specs.declared.ResponseChain.{ResponseChain}
 use Rattle.response_chaining.specs.declared.ResponseReassembly.{ResponseReassembly}
 use Rattle.response_chaining.specs.declared.ResponseReassemblyAnswer.{ResponseReassemblyAnswer}
-use Rattle.response_chaining.specs.declared.ResponseReassemblyAnswer.the-variants.{More, Whole, Refused}
+use Rattle.response_chaining.specs.declared.ResponseReassemblyAnswer.the-variants.{More, Whole}
 use Rattle.response_chaining.proofs.WrittenFragment.{taken-answer, taken-data}
 
 -- one request, and the rest

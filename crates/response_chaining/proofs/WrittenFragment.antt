@@ -3,17 +3,17 @@
 use mathlib.Core.Path.{_≡_, refl, sym, ap, ap₂, _∙_}
 use mathlib.Core.Bool.{Bool, true, false, _||_, not}
 use mathlib.Core.List.{[], _∷_, _++_}
-use Prim.Native.Nat.{ℕ, suc, _+_, _-_, _≤_}
+use Prim.Native.Nat.{ℕ, _+_, _≤_}
 use native.Mathlib.Omega.{arith}
-use borrow.Author.Tests.{le-leb, eq-eqb, ne-eqb}
+use borrow.Author.Tests.{le-leb}
 use lib.Dec.{eqb, leb}
-use lib.ListN.{length, take, getD, length-append}
+use lib.ListN.{length, getD, length-append}
 use lib.Seq.{take-at, getD-at, getD-append-add}
 use Rattle.octets.specs.Bytes.{Bytes}
 use Rattle.octets.specs.Write.{put}
 use Rattle.octets.proofs.Tests.{and-intro}
-use Rattle.protocol.specs.Message.{StatusWord, status, maxResponseField}
-use Rattle.protocol.specs.Answer.{Answer, gave, require_else_⨾_}
+use Rattle.answers.specs.Message.{status, maxResponseField}
+use Rattle.answers.specs.Answer.{gave, require_else_⨾_}
 use Rattle.response_chaining.specs.Fragment.{moreSw1}
 use Rattle.response_chaining.specs.Reassembly.{dataLength, dataOf, statusOf, isMore, wellFormed, possible, total, reassemblyChecks, taken, concluded, reassembleResponse, written, reassemblyBuffer}
 use Rattle.response_chaining.specs.declared.ResponseChain.{ResponseChain}

@@ -8,8 +8,8 @@ use Rattle.octets.specs.Bytes.{Bytes, tabulate}
 use Rattle.octets.specs.Choice.{if_then_else_}
 use Rattle.octets.specs.Write.{over}
 use Rattle.refusal.specs.declared.Refusal.the-variants.{Malformed, BrokenChain}
-use Rattle.protocol.specs.Message.{StatusWord}
-use Rattle.protocol.specs.Permission.{statusPermitted}
+use Rattle.answers.specs.Message.{StatusWord}
+use Rattle.permission.specs.Permission.{statusPermitted}
 use Rattle.parts.specs.Parts.{ceiling}
 use Rattle.response_chaining.specs.Fragment.{longestField, moreSw1, announced, next, fragment}
 use Rattle.response_chaining.specs.Reassembly.{dataOf, statusOf, wellFormed, empty, getResponse, possible, reassembleResponse, reassemblyBuffer}

@@ -7,9 +7,9 @@ use lib.ListN.{length, take, drop}
 use Rattle.octets.specs.Bytes.{Bytes}
 use Rattle.octets.specs.Choice.{if_then_else_}
 use Rattle.refusal.specs.declared.Refusal.the-variants.{NotPermitted, TooLong, BufferTooSmall, BrokenChain}
-use Rattle.protocol.specs.Message.{StatusWord}
-use Rattle.protocol.specs.Permission.{statusPermitted}
-use Rattle.protocol.specs.Answer.{Answer, refused, gave, require_else_⨾_}
+use Rattle.answers.specs.Message.{StatusWord}
+use Rattle.permission.specs.Permission.{statusPermitted}
+use Rattle.answers.specs.Answer.{Answer, refused, gave, require_else_⨾_}
 use Rattle.response_chaining.specs.declared.ResponseFragmentAnswer.{ResponseFragmentAnswer}
 use Rattle.response_chaining.specs.declared.ResponseFragmentAnswer.the-variants.{Fragment, Refused}
 

@@ -9,8 +9,8 @@ use Rattle.octets.specs.Bytes.{Bytes}
 use Rattle.octets.specs.Choice.{if_then_else_}
 use Rattle.octets.specs.Write.{put}
 use Rattle.refusal.specs.declared.Refusal.the-variants.{TooLong, BufferTooSmall, Malformed, BrokenChain}
-use Rattle.protocol.specs.Message.{StatusWord, status, maxResponseField}
-use Rattle.protocol.specs.Answer.{Answer, refused, gave, require_else_⨾_}
+use Rattle.answers.specs.Message.{StatusWord, status, maxResponseField}
+use Rattle.answers.specs.Answer.{Answer, refused, gave, require_else_⨾_}
 use Rattle.response_chaining.specs.Fragment.{moreSw1}
 use Rattle.response_chaining.specs.declared.ResponseChain.{ResponseChain}
 use Rattle.response_chaining.specs.declared.ResponseReassemblyAnswer.the-variants.{More, Whole, Refused}

@@ -10,7 +10,7 @@ use turn::is_turn;
 use validity::counts_as_open;
 ghost use mathlib.Core.Path.{_≡_};
 ghost use Rattle.results.specs.Results.{checked};
-ghost use Rattle.protocol.specs.Message.{status};
+ghost use Rattle.answers.specs.Message.{status};
 ghost use Rattle.protocol.specs.Response.{wrapResponseChecks, unwrapResponseChecks};
 
 // The most data of a response, and the longest field that is read.

@@ -3,7 +3,7 @@
 use mathlib.Core.Path.{_≡_, refl}
 use mathlib.Core.Bool.{Bool, true, false}
 use mathlib.Core.List.{[], _∷_, _++_}
-use Prim.Native.Nat.{ℕ, _+_, _-_, _≤_, _<_}
+use Prim.Native.Nat.{ℕ, _+_, _-_, _≤_}
 use native.Mathlib.Omega.{arith}
 use borrow.Author.Tests.{eq-eqb, ne-eqb}
 use lib.Dec.{eqb}
@@ -11,7 +11,7 @@ use lib.ListN.{length, take, drop, length-append}
 use Rattle.octets.specs.Bytes.{Bytes}
 use Rattle.octets.specs.Choice.{if_then_else_}
 use Rattle.parts.proofs.PartEnds.{ends-within, part-bytes}
-use Rattle.protocol.specs.Message.{StatusWord}
+use Rattle.answers.specs.Message.{StatusWord}
 use Rattle.response_chaining.specs.Fragment.{moreSw1, asked, announced, fragmentData, fragmentStatus, next, fragment}
 
 -- ---- the status word

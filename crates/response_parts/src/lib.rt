@@ -5,7 +5,7 @@ ghost use mathlib.Core.Path.{_≡_};
 ghost use Prim.Native.Nat.{_+_, _≤_};
 ghost use lib.ListN.{length};
 ghost use Rattle.octets.specs.Write.{Wrote};
-ghost use Rattle.protocol.specs.Message.{status};
+ghost use Rattle.answers.specs.Message.{status};
 ghost use Rattle.response_chaining.specs.Fragment.{asked, announced, fragmentStatus, next};
 
 // SW1 of "more bytes are available".

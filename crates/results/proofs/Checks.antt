@@ -5,7 +5,7 @@ use Prim.Native.Nat.{ℕ}
 use native.Mathlib.Omega.{arith}
 use Rattle.refusal.specs.declared.Refusal.{Refusal}
 use Rattle.session.specs.declared.Session.{Session}
-use Rattle.protocol.specs.Answer.{Answer, refused, gave, _and-then_, Outcome, notGiven, concluded}
+use Rattle.answers.specs.Answer.{Answer, refused, gave, _and-then_, Outcome, notGiven, concluded}
 use Rattle.results.specs.Results.{checked}
 use Rattle.results.specs.declared.Checked.the-variants.{Passed, Refused}
 

@@ -2,9 +2,8 @@
 -- Assumes nothing.
 use lib.ListN.{length}
 use Rattle.octets.specs.Bytes.{Bytes}
-use Rattle.protocol.specs.Message.{Response}
-use Rattle.protocol.specs.Answer.{Answer, refused, gave, Out}
-use Rattle.protocol.specs.Command.{CommandGiven}
+use Rattle.answers.specs.Message.{Response, CommandGiven}
+use Rattle.answers.specs.Answer.{Answer, refused, gave, Out}
 use Rattle.results.specs.declared.Checked.{Checked}
 use Rattle.results.specs.declared.Checked.the-variants.{Passed, Refused as Failed}
 use Rattle.results.specs.declared.WrapAnswer.{WrapAnswer}

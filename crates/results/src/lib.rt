@@ -2,7 +2,7 @@
 use refusal::Refusal;
 use session::Session;
 ghost use mathlib.Core.Path.{_≡_};
-ghost use Rattle.protocol.specs.Answer.{afterRefusal, notGiven};
+ghost use Rattle.answers.specs.Answer.{afterRefusal, notGiven};
 ghost use Rattle.results.specs.Results.{wrapResult, commandResult, responseResult};
 
 // Of the tests of a call.

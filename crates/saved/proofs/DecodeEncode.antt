@@ -23,7 +23,7 @@ use Rattle.suite.specs.declared.SuiteNumber.the-variants.{Known}
 use Rattle.session.specs.declared.Session.{Session}
 use Rattle.validity.specs.Valid.{valid, keepsPhase}
 use Rattle.saved.specs.Saved.{sideNumber, phaseNumber, header, keys, mcvs, encode, headed, sideFrom, phaseFrom, part, sessionFrom, decodedTo, accepted, decodeSuite, decode}
-use Rattle.saved.proofs.SavedParts.{length-header, length-keys, length-mcvs, length-encode}
+use Rattle.saved.proofs.SavedParts.{length-header, length-keys, length-encode}
 
 -- ---- numbers
 

@@ -3,7 +3,6 @@ use mathlib.Core.Path.{_≡_, sym, ap, _∙_}
 use mathlib.Core.Bool.{Bool, true, false}
 use Prim.Native.Nat.{ℕ, _≤_}
 use native.Mathlib.Omega.{arith}
-use borrow.Author.Tests.{leb-true}
 use lib.Dec.{leb}
 use lib.ListN.{length, take, length-take}
 use Rattle.octets.specs.Bytes.{Bytes}
@@ -15,7 +14,7 @@ use Rattle.saved.specs.Saved.{encode, decode, unreadable}
 use Rattle.saved.specs.declared.Decoded.{Decoded}
 use Rattle.saved.specs.declared.Decoding.the-variants.{Decoded as Done, Refused}
 use Rattle.saved.proofs.EncodeDecode.{decoded-read}
-use Rattle.protocol.specs.Answer.{Answer, refused, Out, buffer}
+use Rattle.answers.specs.Answer.{Answer, refused, Out, buffer}
 use Rattle.values.specs.declared.Values.{Values}
 use Rattle.session_bytes.specs.SessionBytes.{sessionIn, Served, servedBy, onSession}
 

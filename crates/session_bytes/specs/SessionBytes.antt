@@ -11,7 +11,7 @@ use Rattle.saved.specs.Saved.{encode, decode, unreadable}
 use Rattle.saved.specs.declared.Decoded.{Decoded}
 use Rattle.saved.specs.declared.Decoding.{Decoding}
 use Rattle.saved.specs.declared.Decoding.the-variants.{Decoded as Done, Refused}
-use Rattle.protocol.specs.Answer.{Answer, refused, Out}
+use Rattle.answers.specs.Answer.{Answer, refused, Out}
 
 -- the session of len bytes at the start of a buffer; a length beyond the buffer can't be read
 unfoldable pub sessionIn : Bytes → ℕ → Decoded

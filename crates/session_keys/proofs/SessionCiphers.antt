@@ -1,17 +1,14 @@
 -- The cipher under a session's key is the cipher under the schedule of its 32 bytes.
 -- Assumes nothing.
-use mathlib.Core.Path.{_≡_, refl, sym, ap, _∙_}
+use mathlib.Core.Path.{_≡_, sym, ap, _∙_}
 use native.Mathlib.Omega.{arith}
 use lib.ListN.{length, take}
 use lib.Seq.{length-take-le}
 use Rattle.octets.specs.Bytes.{Bytes}
-use Rattle.octets.specs.Choice.{if_then_else_}
-use Rattle.key_schedule.specs.KeySizes.{nk}
 use Rattle.key_schedule.specs.declared.KeySize.{KeySize}
 use Rattle.key_expansion.specs.KeyExpansion.{schedule}
 use Rattle.key_expansion.proofs.KeyStart.{schedule-start}
 use Rattle.aes.specs.Aes.{aes, invAes, ciph as scheduleCiph, invCiph as scheduleInvCiph}
-use Rattle.suite.specs.Suites.{keyLength}
 use Rattle.stored_keys.specs.StoredKeys.{keyIn}
 use Rattle.suite.specs.declared.Suite.{Suite}
 use Rattle.suite.specs.declared.Suite.the-variants.{Cs2, Cs7}

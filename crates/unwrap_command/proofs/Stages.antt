@@ -12,9 +12,11 @@ use Rattle.fields.specs.declared.FieldRead.the-variants.{Read, Malformed as Bad
 use Rattle.refusal.specs.declared.Refusal.{Refusal}
 use Rattle.refusal.specs.declared.Refusal.the-variants.{Malformed, MissingObject}
 use Rattle.session.specs.declared.Session.{Session}
-use Rattle.protocol.specs.Permission.{commandWanted}
-use Rattle.protocol.specs.Answer.{Answer, refused, _and-then_, Outcome, notGiven, concluded, objectsOf}
-use Rattle.protocol.specs.Command.{CommandGiven, unwrapCommandChecks, cardUnwraps}
+use Rattle.permission.specs.Permission.{commandWanted}
+use Rattle.answers.specs.Answer.{Answer, refused, _and-then_, Outcome, notGiven, concluded}
+use Rattle.protocol.specs.Reading.{objectsOf}
+use Rattle.answers.specs.Message.{CommandGiven}
+use Rattle.protocol.specs.Command.{unwrapCommandChecks, cardUnwraps}
 use Rattle.results.specs.Results.{checked}
 use Rattle.results.specs.declared.Checked.the-variants.{Passed, Refused}
 use Rattle.results.proofs.Checks.{tests-passed, test-refused}

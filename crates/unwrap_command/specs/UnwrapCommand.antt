@@ -5,9 +5,11 @@ use Rattle.fields.specs.Field.{readField}
 use Rattle.fields.specs.declared.Objects.{Objects}
 use Rattle.session.specs.declared.Session.{Session}
 use Rattle.ciphers.specs.Aes.{aesCiphers}
-use Rattle.protocol.specs.Permission.{commandWanted}
-use Rattle.protocol.specs.Answer.{Answer, _and-then_, Outcome, Out, objectsOf}
-use Rattle.protocol.specs.Command.{CommandGiven, openCommand as opens, cardUnwraps}
+use Rattle.permission.specs.Permission.{commandWanted}
+use Rattle.answers.specs.Answer.{Answer, _and-then_, Outcome, Out}
+use Rattle.protocol.specs.Reading.{objectsOf}
+use Rattle.answers.specs.Message.{CommandGiven}
+use Rattle.protocol.specs.Command.{openCommand as opens, cardUnwraps}
 
 abbrev pub unwrapCommand : Session → ℕ → ℕ → ℕ → Bytes → ℕ → Out CommandGiven
 unwrapCommand = cardUnwraps aesCiphers

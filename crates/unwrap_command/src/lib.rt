@@ -13,7 +13,7 @@ use session::Session;
 ghost use mathlib.Core.Path.{_≡_};
 ghost use Prim.Native.Nat.{_<_};
 ghost use lib.ListN.{length};
-ghost use Rattle.protocol.specs.Answer.{concluded, buffer};
+ghost use Rattle.answers.specs.Answer.{concluded, buffer};
 ghost use Rattle.results.specs.Results.{commandResult};
 ghost use Rattle.unwrap_command.specs.UnwrapCommand.{unwrapCommand, readCommand, payloadOf};
 

@@ -12,14 +12,14 @@ use Rattle.fields.specs.declared.FieldRead.the-variants.{Read, Malformed as Bad
 use Rattle.refusal.specs.declared.Refusal.{Refusal}
 use Rattle.refusal.specs.declared.Refusal.the-variants.{Malformed, MissingObject}
 use Rattle.session.specs.declared.Session.{Session}
-use Rattle.protocol.specs.Message.{Response}
-use Rattle.protocol.specs.Permission.{responseWanted}
-use Rattle.protocol.specs.Answer.{Answer, refused, _and-then_, Outcome, notGiven, concluded, objectsOf}
+use Rattle.answers.specs.Message.{Response, status}
+use Rattle.permission.specs.Permission.{responseWanted}
+use Rattle.answers.specs.Answer.{Answer, refused, _and-then_, Outcome, notGiven, concluded}
+use Rattle.protocol.specs.Reading.{objectsOf}
 use Rattle.protocol.specs.Response.{unwrapResponseChecks, hostUnwraps}
 use Rattle.results.specs.Results.{checked}
 use Rattle.results.specs.declared.Checked.the-variants.{Passed, Refused}
 use Rattle.results.proofs.Checks.{tests-passed, test-refused}
-use Rattle.protocol.specs.Message.{status}
 use Rattle.unwrap_response.specs.UnwrapResponse.{unwrapResponse, readResponse, openResponse}
 
 -- ---- the reading

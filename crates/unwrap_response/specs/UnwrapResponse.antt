@@ -5,9 +5,10 @@ use Rattle.fields.specs.Field.{readField}
 use Rattle.fields.specs.declared.Objects.{Objects}
 use Rattle.session.specs.declared.Session.{Session}
 use Rattle.ciphers.specs.Aes.{aesCiphers}
-use Rattle.protocol.specs.Message.{Response, status}
-use Rattle.protocol.specs.Permission.{responseWanted}
-use Rattle.protocol.specs.Answer.{Answer, _and-then_, Outcome, Out, objectsOf}
+use Rattle.answers.specs.Message.{Response, status}
+use Rattle.permission.specs.Permission.{responseWanted}
+use Rattle.answers.specs.Answer.{Answer, _and-then_, Outcome, Out}
+use Rattle.protocol.specs.Reading.{objectsOf}
 use Rattle.protocol.specs.Response.{openResponse as opens, hostUnwraps}
 
 abbrev pub unwrapResponse : Session → ℕ → ℕ → Bytes → ℕ → Out Response

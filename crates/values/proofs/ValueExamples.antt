@@ -4,9 +4,7 @@ use mathlib.Core.Bool.{true}
 use Rattle.refusal.specs.declared.Refusal.the-variants.{BufferTooSmall, BadMac, Unprotected}
 use Rattle.results.specs.declared.CommandAnswer.the-variants.{Accepted as CommandAccepted}
 use Rattle.results.specs.declared.ResponseAnswer.the-variants.{Accepted as ResponseAccepted}
-use Rattle.command_chaining.specs.declared.ReassemblyAnswer.the-variants.{More, Whole}
-use Rattle.response_chaining.specs.declared.ResponseReassemblyAnswer.the-variants.{More as ResponseMore}
-use Rattle.values.specs.Values.{given, refusalValues, commandValues, responseValues, reassemblyValues, responseReassemblyValues}
+use Rattle.values.specs.Values.{given, refusalValues, commandValues, responseValues}
 
 -- a refusal has length 0 and no status
 bad-mac : refusalValues BadMac ≡ given 9 0 0
@@ -25,14 +23,3 @@ accepted = refl
 
 command : commandValues (CommandAccepted 5 true) .le ≡ true
 command = refl
-
--- 90 00 to all fragments of a command but the last, which gives the header
-more : reassemblyValues (More 255 0x90 0x00) ≡ given 0 255 0x9000
-more = refl
-
-whole : reassemblyValues (Whole 257 0xCB 0x3F 0xFF) .p1 ≡ 0x3F
-whole = refl
-
--- 61 and the number to ask for
-announced : responseReassemblyValues (ResponseMore 256 0x93) ≡ given 0 256 0x6193
-announced = refl

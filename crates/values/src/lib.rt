@@ -1,15 +1,11 @@
 // The number and the values of each call's answer (document 01, "The numbered answers"), as the calls from C give them.
-use command_chaining::FragmentAnswer;
-use command_chaining::ReassemblyAnswer;
 use refusal::Refusal;
 use refusal::status_word;
-use response_chaining::ResponseFragmentAnswer;
-use response_chaining::ResponseReassemblyAnswer;
 use results::CommandAnswer;
 use results::ResponseAnswer;
 use results::WrapAnswer;
 ghost use mathlib.Core.Path.{_≡_};
-ghost use Rattle.values.specs.Values.{given, refusalValues, wrapValues, commandValues, responseValues, fragmentValues, reassemblyValues, responseFragmentValues, responseReassemblyValues};
+ghost use Rattle.values.specs.Values.{given, refusalValues, wrapValues, commandValues, responseValues};
 
 // 0 and false where an answer has no such value.
 pub struct Values {
@@ -30,7 +26,7 @@ pub struct Values {
 }
 
 // No Le, no header and no next index.
-fn given(number: u32, len: usize, status: u16) -> Values
+pub fn given(number: u32, len: usize, status: u16) -> Values
     ensures { λ values. ⌜ values ≡ given number len status ⌝ }
 {
     Values {
@@ -87,61 +83,5 @@ pub fn response_values(answer: ResponseAnswer) -> Values
     match answer {
         ResponseAnswer::Accepted(n, sw1, sw2) => given(0, n, status_word(sw1, sw2)),
         ResponseAnswer::Refused(refusal) => refusal_values(refusal),
-    }
-}
-
-pub fn fragment_values(answer: FragmentAnswer) -> Values
-    ensures { λ values. ⌜ values ≡ fragmentValues answer ⌝ }
-{
-    match answer {
-        FragmentAnswer::Fragment(n) => given(0, n, 0),
-        FragmentAnswer::Refused(refusal) => refusal_values(refusal),
-    }
-}
-
-pub fn reassembly_values(answer: ReassemblyAnswer) -> Values
-    ensures { λ values. ⌜ values ≡ reassemblyValues answer ⌝ }
-{
-    match answer {
-        ReassemblyAnswer::More(n, sw1, sw2) => given(0, n, status_word(sw1, sw2)),
-        ReassemblyAnswer::Whole(n, ins, p1, p2) => Values {
-            number: 0,
-            len: n,
-            status: 0,
-            le: false,
-            ins,
-            p1,
-            p2,
-            next: 0,
-        },
-        ReassemblyAnswer::Refused(refusal) => refusal_values(refusal),
-    }
-}
-
-pub fn response_fragment_values(answer: ResponseFragmentAnswer) -> Values
-    ensures { λ values. ⌜ values ≡ responseFragmentValues answer ⌝ }
-{
-    match answer {
-        ResponseFragmentAnswer::Fragment(n, next) => Values {
-            number: 0,
-            len: n,
-            status: 0,
-            le: false,
-            ins: 0,
-            p1: 0,
-            p2: 0,
-            next,
-        },
-        ResponseFragmentAnswer::Refused(refusal) => refusal_values(refusal),
-    }
-}
-
-pub fn response_reassembly_values(answer: ResponseReassemblyAnswer) -> Values
-    ensures { λ values. ⌜ values ≡ responseReassemblyValues answer ⌝ }
-{
-    match answer {
-        ResponseReassemblyAnswer::More(n, le) => given(0, n, status_word(0x61, le)),
-        ResponseReassemblyAnswer::Whole(n, sw1, sw2) => given(0, n, status_word(sw1, sw2)),
-        ResponseReassemblyAnswer::Refused(refusal) => refusal_values(refusal),
     }
 }

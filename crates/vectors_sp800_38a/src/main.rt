@@ -55,7 +55,7 @@ fn encrypted(size: KeySize, w: &[[u8; 4]; 60], plaintext: [u8; 64]) -> [u8; 64] 
 
 fn decrypted(size: KeySize, w: &[[u8; 4]; 60], ciphertext: [u8; 64]) -> [u8; 64] {
     let mut data = ciphertext;
-    cbc::decrypt(size, w, IV, &mut data);
+    cbc_decryption::decrypt(size, w, IV, &mut data);
     data
 }
 

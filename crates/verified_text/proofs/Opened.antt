@@ -15,7 +15,8 @@ use Rattle.refusal.specs.declared.Refusal.{Refusal}
 use Rattle.refusal.specs.declared.Refusal.the-variants.{BufferTooSmall, BadMac}
 use Rattle.session.specs.declared.Session.{Session}
 use Rattle.ciphers.specs.Aes.{decrypt}
-use Rattle.protocol.specs.Answer.{Answer, refused, gave, require_else_⨾_, _and-then_, Outcome, Out, notGiven, given, concluded, buffer, textOf}
+use Rattle.answers.specs.Answer.{Answer, refused, gave, require_else_⨾_, _and-then_, Outcome, Out, notGiven, given, concluded, buffer}
+use Rattle.protocol.specs.Reading.{textOf}
 use Rattle.verified_text.specs.VerifiedText.{verified, verifiedText}
 use Rattle.verified_text.specs.declared.Verified.the-variants.{Data, Refused}
 

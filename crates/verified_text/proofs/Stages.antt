@@ -17,7 +17,8 @@ use Rattle.fields.specs.declared.Objects.{Objects}
 use Rattle.field_laws.specs.Written.{Conforms}
 use Rattle.refusal.specs.declared.Refusal.the-variants.{BufferTooSmall, BadMac, BadPadding as WrongPadding}
 use Rattle.ciphers.specs.Aes.{decrypt}
-use Rattle.protocol.specs.Answer.{Answer, require_else_⨾_, buffer, textOf}
+use Rattle.answers.specs.Answer.{Answer, require_else_⨾_, buffer}
+use Rattle.protocol.specs.Reading.{textOf}
 use Rattle.decryption.specs.Decryption.{unpadded}
 use Rattle.decryption.proofs.InMemory.{found-none, found-data}
 use Rattle.verified_text.specs.VerifiedText.{StandIn, verified, verifiedText}

@@ -9,7 +9,8 @@ use Rattle.fields.specs.Field.{ciphertextOf, macOf}
 use Rattle.fields.specs.declared.Objects.{Objects}
 use Rattle.refusal.specs.declared.Refusal.the-variants.{BufferTooSmall, BadMac}
 use Rattle.ciphers.specs.Aes.{decrypt}
-use Rattle.protocol.specs.Answer.{Answer, refused, gave, require_else_⨾_, textOf}
+use Rattle.answers.specs.Answer.{Answer, refused, gave, require_else_⨾_}
+use Rattle.protocol.specs.Reading.{textOf}
 use Rattle.verified_text.specs.declared.Verified.{Verified}
 use Rattle.verified_text.specs.declared.Verified.the-variants.{Data, Refused}
 

@@ -10,7 +10,7 @@ use suite::Suite;
 ghost use mathlib.Core.Path.{_≡_};
 ghost use lib.ListN.{length};
 ghost use Rattle.stored_keys.specs.StoredKeys.{keyIn};
-ghost use Rattle.protocol.specs.Answer.{buffer};
+ghost use Rattle.answers.specs.Answer.{buffer};
 ghost use Rattle.verified_text.specs.VerifiedText.{StandIn, verified, verifiedText};
 
 pub enum Verified {

@@ -41,3 +41,9 @@ unfoldable pub allowed : Wanted → ℕ → ℕ → Bool
 allowed w r tag =
     ltb r (rank (w .second) tag)
     && (if eqb tag 0x87 then may (w .«data») else if eqb tag 0x8E then true else may (needOf (w .second)))
+
+-- whether an object may be there, or be absent
+abbrev pub suits : Need → Bool → Bool
+suits Must there = there
+suits May there = true
+suits MustNot there = not there

@@ -7,12 +7,12 @@ use lib.ListN.{length}
 use Rattle.octets.specs.Bytes.{Bytes}
 use Rattle.refusal.specs.declared.Refusal.{Refusal}
 use Rattle.session.specs.declared.Session.{Session}
-use Rattle.protocol.specs.Answer.{notGiven, given, concluded}
+use Rattle.answers.specs.Answer.{notGiven, given, concluded}
 use Rattle.protocol.specs.Command.{wrapCommandChecks, hostWraps}
 use Rattle.results.specs.Results.{checked}
 use Rattle.results.specs.declared.Checked.the-variants.{Passed, Refused}
 use Rattle.results.proofs.Checks.{tests-passed, test-refused}
-use Rattle.protocol.specs.Message.{header}
+use Rattle.answers.specs.Message.{header}
 use Rattle.written_command.specs.WrittenCommand.{commandWritten}
 use Rattle.wrap_command.specs.WrapCommand.{wrapCommand}
 

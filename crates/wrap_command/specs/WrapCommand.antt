@@ -4,8 +4,8 @@ use Prim.Native.Nat.{ℕ}
 use Rattle.octets.specs.Bytes.{Bytes}
 use Rattle.session.specs.declared.Session.{Session}
 use Rattle.ciphers.specs.Aes.{aesCiphers}
-use Rattle.protocol.specs.Message.{header}
-use Rattle.protocol.specs.Answer.{Out}
+use Rattle.answers.specs.Message.{header}
+use Rattle.answers.specs.Answer.{Out}
 use Rattle.protocol.specs.Command.{hostWraps}
 
 abbrev pub wrapCommand : Session → ℕ → ℕ → ℕ → Bool → Bytes → ℕ → Out Bytes

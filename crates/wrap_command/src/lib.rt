@@ -8,7 +8,7 @@ use written_command::write_command;
 ghost use mathlib.Core.Path.{_≡_};
 ghost use lib.ListN.{length};
 ghost use Rattle.octets.specs.Bytes.{IsBytes};
-ghost use Rattle.protocol.specs.Answer.{buffer};
+ghost use Rattle.answers.specs.Answer.{buffer};
 ghost use Rattle.protocol.specs.HonestDelivery.{Keyed};
 ghost use Rattle.results.specs.Results.{wrapResult};
 ghost use Rattle.wrap_command.specs.WrapCommand.{wrapCommand};

@@ -6,12 +6,12 @@ use lib.ListN.{length}
 use Rattle.octets.specs.Bytes.{Bytes}
 use Rattle.refusal.specs.declared.Refusal.{Refusal}
 use Rattle.session.specs.declared.Session.{Session}
-use Rattle.protocol.specs.Answer.{notGiven, given, concluded}
+use Rattle.answers.specs.Answer.{notGiven, given, concluded}
 use Rattle.protocol.specs.Response.{wrapResponseChecks, cardWraps}
 use Rattle.results.specs.Results.{checked}
 use Rattle.results.specs.declared.Checked.the-variants.{Passed, Refused}
 use Rattle.results.proofs.Checks.{tests-passed, test-refused}
-use Rattle.protocol.specs.Message.{status}
+use Rattle.answers.specs.Message.{status}
 use Rattle.written_response.specs.WrittenResponse.{responseWritten}
 use Rattle.wrap_response.specs.WrapResponse.{wrapResponse}
 

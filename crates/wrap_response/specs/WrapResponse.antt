@@ -3,8 +3,8 @@ use Prim.Native.Nat.{ℕ}
 use Rattle.octets.specs.Bytes.{Bytes}
 use Rattle.session.specs.declared.Session.{Session}
 use Rattle.ciphers.specs.Aes.{aesCiphers}
-use Rattle.protocol.specs.Message.{status}
-use Rattle.protocol.specs.Answer.{Out}
+use Rattle.answers.specs.Message.{status}
+use Rattle.answers.specs.Answer.{Out}
 use Rattle.protocol.specs.Response.{cardWraps}
 
 abbrev pub wrapResponse : Session → ℕ → ℕ → Bytes → ℕ → Out Bytes

@@ -1,7 +1,7 @@
 // A command that passed its tests, written: its objects, their MAC, and the next session (SP 800-73-4 Part 2, 4.2.2 to 4.2.4).
 use counter::command_counter;
 use encryption::encrypt_text;
-use objects::put_command_objects;
+use field_objects::put_command_objects;
 use objects::put_mac;
 use results::WrapAnswer;
 use results::WrapResult;
@@ -16,7 +16,7 @@ ghost use Rattle.octets.specs.Write.{over, Wrote};
 ghost use Rattle.objects.specs.Objects.{commandObjects};
 ghost use Rattle.field_lengths.specs.Lengths.{commandLength};
 ghost use Rattle.ciphers.specs.Aes.{aesCiphers};
-ghost use Rattle.protocol.specs.Answer.{given};
+ghost use Rattle.answers.specs.Answer.{given};
 ghost use Rattle.protocol.specs.Command.{commandCiphertext};
 ghost use Rattle.results.specs.Results.{wrapResult};
 ghost use Rattle.written_command.specs.WrittenCommand.{commandWritten};

@@ -1,8 +1,8 @@
 // A response that passed its tests, written: its objects, their MAC, and the next session (SP 800-73-4 Part 2, 4.2.2 and 4.2.5).
 use counter::response_counter;
 use encryption::encrypt_text;
+use field_objects::put_response_objects;
 use objects::put_mac;
-use objects::put_response_objects;
 use results::WrapAnswer;
 use results::WrapResult;
 use session::Session;
@@ -16,7 +16,7 @@ ghost use Rattle.octets.specs.Write.{over, Wrote};
 ghost use Rattle.objects.specs.Objects.{responseObjects};
 ghost use Rattle.field_lengths.specs.Lengths.{responseLength};
 ghost use Rattle.ciphers.specs.Aes.{aesCiphers};
-ghost use Rattle.protocol.specs.Answer.{given};
+ghost use Rattle.answers.specs.Answer.{given};
 ghost use Rattle.protocol.specs.Response.{responseCiphertext};
 ghost use Rattle.results.specs.Results.{wrapResult};
 ghost use Rattle.written_response.specs.WrittenResponse.{responseWritten};

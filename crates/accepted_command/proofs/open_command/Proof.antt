@@ -3,15 +3,16 @@
 use borrow.Author.Needs.{needs}
 use Rattle.accepted_command.proofs.open_command.Statement.{statement}
 use Rattle.accepted_command.proofs.open_command.Tie as tie
-use mathlib.Core.Path.{_≡_, refl, sym, ap, _∙_}
+use mathlib.Core.Path.{refl, sym, ap, _∙_}
 use native.Mathlib.Omega.{arith}
 use lib.ListN.{length}
 use lib.Seq.{length-take-le}
 use Rattle.field_laws.proofs.AcceptedRules.{conforms}
 use Rattle.transitions.specs.Transitions.{commandTaken}
 use Rattle.ciphers.specs.Aes.{aesCiphers}
-use Rattle.protocol.specs.Permission.{commandWanted}
-use Rattle.protocol.specs.Command.{CommandGiven, commandInput, commandMac, commandAccepted}
+use Rattle.permission.specs.Permission.{commandWanted}
+use Rattle.answers.specs.Message.{CommandGiven}
+use Rattle.protocol.specs.Command.{commandInput, commandMac, commandAccepted}
 use Rattle.results.specs.Results.{commandResult}
 use Rattle.results.specs.declared.CommandAnswer.the-variants.{Accepted}
 use Rattle.verified_text.proofs.Stages.{stand-in}

@@ -3,20 +3,20 @@
 use borrow.Author.Needs.{needs}
 use Rattle.accepted_response.proofs.open_response.Statement.{statement}
 use Rattle.accepted_response.proofs.open_response.Tie as tie
-use mathlib.Core.Path.{_≡_, refl, sym, ap, _∙_}
+use mathlib.Core.Path.{refl, sym, ap, _∙_}
 use native.Mathlib.Omega.{arith}
 use lib.ListN.{length}
 use lib.Seq.{length-take-le}
 use Rattle.field_laws.proofs.AcceptedRules.{conforms}
 use Rattle.transitions.specs.Transitions.{responseTaken}
 use Rattle.ciphers.specs.Aes.{aesCiphers}
-use Rattle.protocol.specs.Permission.{responseWanted}
+use Rattle.permission.specs.Permission.{responseWanted}
 use Rattle.protocol.specs.Response.{responseMac, responseAccepted}
 use Rattle.results.specs.Results.{responseResult}
 use Rattle.results.specs.declared.ResponseAnswer.the-variants.{Accepted}
 use Rattle.verified_text.proofs.Stages.{stand-in}
 use Rattle.verified_text.proofs.Opened.{opens-refused, opens-data}
-use Rattle.protocol.specs.Message.{Response, status}
+use Rattle.answers.specs.Message.{Response, status}
 use Rattle.accepted_response.proofs.TextFirst.{text-first}
 
 slice-aggregate-response-mac : tie.Need-slice-aggregate-response-mac

@@ -1,5 +1,5 @@
 -- `pivsm_close` meets its contract: the session that was read, closed, or 16. Assumes nothing.
-use mathlib.Core.Path.{_≡_, refl, ap, _∙_}
+use mathlib.Core.Path.{refl, ap, _∙_}
 use mathlib.Core.List.{[]}
 use borrow.Author.Needs.{needs}
 use Rattle.octets.specs.Bytes.{Bytes}
@@ -7,7 +7,7 @@ use Rattle.octets.specs.Write.{over}
 use Rattle.session.specs.Session.{closed}
 use Rattle.session.specs.declared.Session.{Session}
 use Rattle.saved.specs.Saved.{encode}
-use Rattle.protocol.specs.Answer.{gave, Out, buffer}
+use Rattle.answers.specs.Answer.{gave, Out, buffer}
 use Rattle.values.specs.Values.{given, refusalValues}
 use Rattle.values.specs.declared.Values.{Values}
 use Rattle.session_bytes.proofs.OnSession.{was-read, was-not-read, has-room}

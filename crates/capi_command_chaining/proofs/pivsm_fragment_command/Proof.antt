@@ -1,8 +1,7 @@
 -- `pivsm_fragment_command` meets its contract: its numbers are those of the answer. Assumes nothing.
-use mathlib.Core.Path.{_≡_, ap, _∙_}
+use mathlib.Core.Path.{ap, _∙_}
 use borrow.Author.Needs.{needs}
-use Rattle.command_chaining.specs.declared.FragmentAnswer.{FragmentAnswer}
-use Rattle.values.specs.Values.{fragmentValues}
+use Rattle.chaining_values.specs.ChainingValues.{fragmentValues}
 use Rattle.values.specs.declared.Values.{Values}
 use Rattle.capi_command_chaining.proofs.pivsm_fragment_command.Statement.{statement}
 use Rattle.capi_command_chaining.proofs.pivsm_fragment_command.Tie as tie

@@ -1,14 +1,14 @@
 -- `pivsm_reassemble_command` meets its contract: the chain that the number stands for, and the number of the next. Assumes nothing.
-use mathlib.Core.Path.{_≡_, sym, ap, subst, _∙_}
+use mathlib.Core.Path.{sym, ap, subst, _∙_}
 use Prim.Native.Nat.{_≤_}
 use lib.ListN.{length}
 use borrow.Author.Needs.{needs}
 use Rattle.command_chaining.specs.Reassembly.{reassembleCommand, reassemblyBuffer}
 use Rattle.command_chaining.specs.declared.CommandChain.{CommandChain}
 use Rattle.command_chaining.specs.declared.Reassembly.{Reassembly}
-use Rattle.values.specs.Values.{reassemblyValues}
+use Rattle.chaining_values.specs.ChainingValues.{reassemblyValues}
 use Rattle.values.specs.declared.Values.{Values}
-use Rattle.capi_command_chaining.specs.CommandChains.{chainNumber, chainOf}
+use Rattle.capi_command_chaining.specs.CommandChains.{chainNumber}
 use Rattle.capi_command_chaining.proofs.ChainNumbers.{left-short}
 use Rattle.capi_command_chaining.proofs.pivsm_reassemble_command.Statement.{statement}
 use Rattle.capi_command_chaining.proofs.pivsm_reassemble_command.Tie as tie

@@ -1,11 +1,10 @@
 -- `put_opened` meets its contract: no room, the session, or a refusal. Assumes nothing.
-use mathlib.Core.Path.{_≡_, sym, ap, _∙_}
-use native.Mathlib.Omega.{arith}
+use mathlib.Core.Path.{sym, ap, _∙_}
 use lib.ListN.{length}
 use borrow.Author.Needs.{needs}
 use Rattle.octets.specs.Bytes.{Bytes}
 use Rattle.saved.proofs.SavedParts.{length-encode}
-use Rattle.protocol.specs.Answer.{Answer, buffer}
+use Rattle.answers.specs.Answer.{Answer, buffer}
 use Rattle.capi_open.specs.OpenOn.{openGives}
 use Rattle.capi_open.proofs.OpenedBytes.{too-small, enough, not-opened}
 use Rattle.capi_open.proofs.put_opened.Statement.{statement}

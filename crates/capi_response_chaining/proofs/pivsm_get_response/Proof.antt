@@ -1,5 +1,5 @@
 -- `pivsm_get_response` meets its contract: no room, or the five bytes. Assumes nothing.
-use mathlib.Core.Path.{_≡_, refl, sym, ap, _∙_}
+use mathlib.Core.Path.{_≡_, sym, ap, _∙_}
 use lib.ListN.{length}
 use borrow.Author.Needs.{needs}
 use borrow.Author.Tests.{le-leb, lt-leb}
@@ -7,7 +7,7 @@ use Rattle.octets.specs.Bytes.{Bytes}
 use Rattle.octets.specs.Write.{over}
 use Rattle.octets.proofs.Writing.{wrote-all}
 use Rattle.refusal.specs.declared.Refusal.the-variants.{BufferTooSmall}
-use Rattle.protocol.specs.Answer.{Answer, refused, gave, buffer, require_else_⨾_}
+use Rattle.answers.specs.Answer.{Answer, refused, gave, buffer, require_else_⨾_}
 use Rattle.response_chaining.specs.Reassembly.{getResponse}
 use Rattle.capi_response_chaining.specs.ResponseChains.{getResponseOf, getResponseGives}
 use Rattle.capi_response_chaining.proofs.pivsm_get_response.Statement.{statement}

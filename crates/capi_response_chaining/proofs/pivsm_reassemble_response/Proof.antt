@@ -1,8 +1,8 @@
 -- `pivsm_reassemble_response` meets its contract: the chain is its length. Assumes nothing.
-use mathlib.Core.Path.{_≡_, ap, _∙_}
+use mathlib.Core.Path.{ap, _∙_}
 use borrow.Author.Needs.{needs}
 use Rattle.response_chaining.specs.declared.ResponseReassembly.{ResponseReassembly}
-use Rattle.values.specs.Values.{responseReassemblyValues}
+use Rattle.chaining_values.specs.ChainingValues.{responseReassemblyValues}
 use Rattle.values.specs.declared.Values.{Values}
 use Rattle.capi_response_chaining.proofs.pivsm_reassemble_response.Statement.{statement}
 use Rattle.capi_response_chaining.proofs.pivsm_reassemble_response.Tie as tie

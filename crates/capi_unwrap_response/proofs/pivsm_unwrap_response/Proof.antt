@@ -1,5 +1,5 @@
 -- `pivsm_unwrap_response` meets its contract: the unwrap on the session that was read, or 16. Assumes nothing.
-use mathlib.Core.Path.{_≡_, ap, _∙_}
+use mathlib.Core.Path.{ap, _∙_}
 use Prim.Native.Nat.{ℕ, _/_, _%_}
 use lib.ListN.{length}
 use borrow.Author.Needs.{needs}
@@ -7,8 +7,8 @@ use Rattle.octets.specs.Bytes.{Bytes}
 use Rattle.octets.specs.Write.{over}
 use Rattle.session.specs.declared.Session.{Session}
 use Rattle.saved.specs.Saved.{encode}
-use Rattle.protocol.specs.Answer.{Out}
-use Rattle.protocol.specs.Message.{Response}
+use Rattle.answers.specs.Answer.{Out}
+use Rattle.answers.specs.Message.{Response}
 use Rattle.results.specs.Results.{responseAnswer}
 use Rattle.results.specs.declared.ResponseResult.{ResponseResult}
 use Rattle.values.specs.Values.{responseValues}

@@ -7,7 +7,7 @@ use mathlib.Core.Path.{sym}
 use native.Mathlib.Omega.{arith}
 use borrow.Author.Tests.{le-leb, lt-leb}
 use Rattle.octets.proofs.Tests.{outcome}
-use Rattle.command_chaining.specs.Apdu.{isChained, wellFormed}
+use Rattle.command_chaining.specs.Apdu.{wellFormed}
 use Rattle.command_apdu.proofs.Shapes.{short-malformed}
 
 returns : tie.Need-returns

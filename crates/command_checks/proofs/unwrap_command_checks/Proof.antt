@@ -3,11 +3,9 @@
 use borrow.Author.Needs.{needs}
 use Rattle.command_checks.proofs.unwrap_command_checks.Statement.{statement}
 use Rattle.command_checks.proofs.unwrap_command_checks.Tie as tie
-use mathlib.Core.Path.{sym}
-use native.Mathlib.Omega.{arith}
 use borrow.Author.Tests.{not-true, not-false, lt-leb, le-leb, lt-ltb, le-ltb}
 use Rattle.octets.proofs.Tests.{outcome}
-use Rattle.protocol.specs.Answer.{require_else_⨾_}
+use Rattle.answers.specs.Answer.{require_else_⨾_}
 use Rattle.protocol.specs.Command.{unwrapCommandChecks}
 
 returns : tie.Need-returns

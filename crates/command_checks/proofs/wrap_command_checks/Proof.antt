@@ -7,7 +7,7 @@ use mathlib.Core.Path.{sym}
 use native.Mathlib.Omega.{arith}
 use borrow.Author.Tests.{not-true, not-false, lt-leb, le-leb, lt-ltb, le-ltb}
 use Rattle.octets.proofs.Tests.{outcome}
-use Rattle.protocol.specs.Answer.{require_else_⨾_}
+use Rattle.answers.specs.Answer.{require_else_⨾_}
 use Rattle.protocol.specs.Command.{wrapCommandChecks}
 
 returns : tie.Need-returns

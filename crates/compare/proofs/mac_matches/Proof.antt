@@ -1,14 +1,13 @@
 -- `mac_matches` meets its contract: before each turn `differ` is 0 exactly where the first i bytes are the same.
 -- Assumes nothing.
 use borrow.Author.Needs.{needs}
-use mathlib.Core.Path.{_≡_, sym, ap, ap₂, _∙_, refl}
-use Prim.Native.Nat.{ℕ, _+_, _-_, _≤_}
+use mathlib.Core.Path.{_≡_, sym, ap, _∙_, refl}
+use Prim.Native.Nat.{ℕ, _-_, _≤_}
 use native.Mathlib.Omega.{arith}
 use lib.Bits.{bitXor, bitOr}
 use lib.Dec.{eqb}
 use lib.ListN.{length, take, drop, getD, length-drop}
 use lib.Seq.{getD-drop, take-all}
-use mathlib.Core.List.{List}
 use denote.Ref.{now}
 use Rattle.compare.specs.Same.{same}
 use Rattle.compare.proofs.SameBytes.{same-more}

@@ -3,9 +3,9 @@
 use borrow.Author.Needs.{needs}
 use Rattle.decryption.proofs.decrypt_by_memory.Statement.{statement}
 use Rattle.decryption.proofs.decrypt_by_memory.Tie as tie
-use mathlib.Core.Path.{_≡_, sym, _∙_}
+use mathlib.Core.Path.{sym}
 use native.Mathlib.Omega.{arith}
-use lib.ListN.{length, length-take}
+use lib.ListN.{length-take}
 use lib.Seq.{length-take-le}
 use Rattle.octets.proofs.Writing.{wrote-all}
 use Rattle.decryption.proofs.InMemory.{data-within, nothing-out, data-out}

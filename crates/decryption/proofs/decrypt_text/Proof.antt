@@ -3,12 +3,13 @@
 use borrow.Author.Needs.{needs}
 use Rattle.decryption.proofs.decrypt_text.Statement.{statement}
 use Rattle.decryption.proofs.decrypt_text.Tie as tie
-use mathlib.Core.Path.{_≡_, ap, _∙_}
+use mathlib.Core.Path.{ap, _∙_}
 use native.Mathlib.Omega.{arith}
 use Rattle.octets.specs.Bytes.{Bytes}
 use Rattle.stored_keys.specs.StoredKeys.{keyIn}
 use Rattle.ciphers.specs.Aes.{decrypt}
-use Rattle.protocol.specs.Answer.{textOf, buffer}
+use Rattle.answers.specs.Answer.{buffer}
+use Rattle.protocol.specs.Reading.{textOf}
 use Rattle.decryption.specs.Decryption.{unpadded}
 use Rattle.decryption.proofs.InMemory.{part-of, length-part}
 

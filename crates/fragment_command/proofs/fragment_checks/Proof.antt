@@ -7,7 +7,7 @@ use mathlib.Core.Path.{sym, ap}
 use native.Mathlib.Omega.{arith}
 use borrow.Author.Tests.{lt-leb, le-leb, lt-ltb, le-ltb}
 use lib.ListN.{length}
-use Rattle.protocol.specs.Answer.{require_else_⨾_}
+use Rattle.answers.specs.Answer.{require_else_⨾_}
 use Rattle.command_chaining.specs.Fragment.{fragmentCommand}
 use Rattle.command_chaining.specs.declared.FragmentAnswer.the-variants.{Fragment}
 

@@ -9,7 +9,7 @@ use native.Mathlib.Omega.{arith}
 use lib.ListN.{length}
 use Rattle.octets.specs.Bytes.{Bytes}
 use Rattle.octets.proofs.Writing.{wrote-all}
-use Rattle.protocol.specs.Answer.{Answer, buffer}
+use Rattle.answers.specs.Answer.{buffer}
 use Rattle.command_chaining.specs.Apdu.{header}
 use Rattle.command_chaining.specs.Fragment.{fragmentCommand, fragmentAnswer}
 use Rattle.command_chaining.specs.declared.FragmentAnswer.the-variants.{Fragment}

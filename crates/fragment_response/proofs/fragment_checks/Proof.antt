@@ -9,8 +9,8 @@ use native.Mathlib.Omega.{arith}
 use borrow.Author.Tests.{not-true, not-false, lt-leb, le-leb, lt-ltb, le-ltb}
 use lib.ListN.{length}
 use Rattle.octets.proofs.Tests.{outcome}
-use Rattle.protocol.specs.Answer.{require_else_⨾_}
-use Rattle.protocol.specs.Message.{status}
+use Rattle.answers.specs.Answer.{require_else_⨾_}
+use Rattle.answers.specs.Message.{status}
 use Rattle.response_chaining.specs.Fragment.{fragmentResponse}
 use Rattle.response_chaining.specs.declared.ResponseFragmentAnswer.the-variants.{Fragment}
 use Rattle.response_parts.proofs.Parts.{part-order, part-within, length-fragment}

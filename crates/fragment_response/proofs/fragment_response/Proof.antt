@@ -9,8 +9,8 @@ use native.Mathlib.Omega.{arith}
 use lib.ListN.{length}
 use Rattle.octets.specs.Bytes.{Bytes}
 use Rattle.octets.proofs.Writing.{wrote-all}
-use Rattle.protocol.specs.Answer.{buffer}
-use Rattle.protocol.specs.Message.{status}
+use Rattle.answers.specs.Answer.{buffer}
+use Rattle.answers.specs.Message.{status}
 use Rattle.response_chaining.specs.Fragment.{next, fragmentResponse, fragmentAnswer}
 use Rattle.response_chaining.specs.declared.ResponseFragmentAnswer.the-variants.{Fragment}
 use Rattle.fragment_response.proofs.FragmentCases.{may-fragment, was-refused}

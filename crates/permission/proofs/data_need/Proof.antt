@@ -3,7 +3,7 @@
 use Rattle.permission.proofs.data_need.Statement.{statement}
 use Rattle.permission.proofs.data_need.Tie as tie
 use borrow.Author.Tests.{eq-eqb, ne-eqb}
-use Rattle.protocol.specs.Permission.{dataNeed}
+use Rattle.permission.specs.Permission.{dataNeed}
 
 returns : tie.Need-returns
 unfolding dataNeed

@@ -3,7 +3,7 @@
 use Rattle.permission.proofs.ins_permitted.Statement.{statement}
 use Rattle.permission.proofs.ins_permitted.Tie as tie
 use borrow.Author.Tests.{eq-eqb, ne-eqb}
-use Rattle.protocol.specs.Permission.{insPermitted}
+use Rattle.permission.specs.Permission.{insPermitted}
 
 returns : tie.Need-returns
 unfolding insPermitted

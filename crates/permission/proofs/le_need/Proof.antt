@@ -3,7 +3,7 @@
 use Rattle.permission.proofs.le_need.Statement.{statement}
 use Rattle.permission.proofs.le_need.Tie as tie
 use borrow.Author.Tests.{eq-eqb, ne-eqb}
-use Rattle.protocol.specs.Permission.{leNeed}
+use Rattle.permission.specs.Permission.{leNeed}
 
 returns : tie.Need-returns
 unfolding leNeed

@@ -3,7 +3,7 @@
 use Rattle.permission.proofs.response_wanted.Statement.{statement}
 use Rattle.permission.proofs.response_wanted.Tie as tie
 use mathlib.Core.Path.{refl}
-use Rattle.protocol.specs.Permission.{responseWanted}
+use Rattle.permission.specs.Permission.{responseWanted}
 
 returns : tie.Need-returns
 unfolding responseWanted

@@ -3,7 +3,7 @@
 use Rattle.permission.proofs.status_permitted.Statement.{statement}
 use Rattle.permission.proofs.status_permitted.Tie as tie
 use mathlib.Core.Path.{refl}
-use Rattle.protocol.specs.Permission.{statusPermitted}
+use Rattle.permission.specs.Permission.{statusPermitted}
 
 returns : tie.Need-returns
 unfolding statusPermitted

@@ -9,8 +9,7 @@ use lib.ListN.{length}
 use Rattle.octets.specs.Bytes.{Bytes}
 use Rattle.aes.specs.Aes.{ciph, aes}
 use Rattle.cmac.specs.Cmac.{cmac}
-use Rattle.primitive_calls.proofs.Results.{two-parts}
-use Rattle.primitive_calls.proofs.Results.{key-fits, bad-key, malformed, done, replaced}
+use Rattle.primitive_calls.proofs.Results.{two-parts, key-fits, bad-key, malformed, done, replaced}
 use Rattle.primitives.proofs.pivsm_cmac.Statement.{statement}
 use Rattle.primitives.proofs.pivsm_cmac.Tie as tie
 

@@ -6,7 +6,7 @@ use Rattle.response_checks.proofs.unwrap_response_checks.Tie as tie
 use native.Mathlib.Omega.{arith}
 use borrow.Author.Tests.{not-true, not-false, lt-leb, le-leb, lt-ltb, le-ltb}
 use Rattle.octets.proofs.Tests.{outcome}
-use Rattle.protocol.specs.Answer.{require_else_⨾_}
+use Rattle.answers.specs.Answer.{require_else_⨾_}
 use Rattle.protocol.specs.Response.{unwrapResponseChecks}
 
 returns : tie.Need-returns

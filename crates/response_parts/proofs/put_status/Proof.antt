@@ -4,7 +4,7 @@ use borrow.Author.Needs.{needs}
 use Rattle.response_parts.proofs.put_status.Statement.{statement}
 use Rattle.response_parts.proofs.put_status.Tie as tie
 use mathlib.Core.Path.{sym}
-use Rattle.protocol.specs.Message.{status}
+use Rattle.answers.specs.Message.{status}
 use Rattle.response_parts.proofs.Parts.{status-last, status-more}
 
 returns : tie.Need-returns

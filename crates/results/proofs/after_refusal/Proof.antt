@@ -5,7 +5,7 @@ use Rattle.results.proofs.after_refusal.Statement.{statement}
 use Rattle.results.proofs.after_refusal.Tie as tie
 use mathlib.Core.Path.{sym, _∙_}
 use borrow.Author.Tests.{eq-eqb, ne-eqb}
-use Rattle.protocol.specs.Answer.{afterRefusal}
+use Rattle.answers.specs.Answer.{afterRefusal}
 
 returns : tie.Need-returns
 unfolding afterRefusal

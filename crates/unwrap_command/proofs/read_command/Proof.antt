@@ -3,12 +3,12 @@
 use borrow.Author.Needs.{needs}
 use Rattle.unwrap_command.proofs.read_command.Statement.{statement}
 use Rattle.unwrap_command.proofs.read_command.Tie as tie
-use mathlib.Core.Path.{_≡_, sym, ap, _∙_}
+use mathlib.Core.Path.{sym, ap, _∙_}
 use lib.ListN.{length}
 use Rattle.fields.specs.Field.{readField}
 use Rattle.wanted.specs.declared.Wanted.{Wanted}
-use Rattle.protocol.specs.Command.{CommandGiven}
-use Rattle.protocol.specs.Answer.{Answer, Outcome, concluded, buffer}
+use Rattle.answers.specs.Message.{CommandGiven}
+use Rattle.answers.specs.Answer.{Answer, Outcome, concluded, buffer}
 use Rattle.results.specs.Results.{commandResult}
 use Rattle.results.proofs.RefusedStage.{stage-refused}
 use Rattle.unwrap_command.specs.UnwrapCommand.{payloadOf}

@@ -5,8 +5,8 @@ use Rattle.unwrap_command.proofs.unwrap_command.Statement.{statement}
 use Rattle.unwrap_command.proofs.unwrap_command.Tie as tie
 use mathlib.Core.Path.{sym, ap, _∙_}
 use lib.ListN.{length}
-use Rattle.protocol.specs.Command.{CommandGiven}
-use Rattle.protocol.specs.Answer.{Out, buffer}
+use Rattle.answers.specs.Message.{CommandGiven}
+use Rattle.answers.specs.Answer.{Out, buffer}
 use Rattle.protocol.proofs.CallCases.{may-unwrap-command}
 use Rattle.results.specs.Results.{commandResult}
 use Rattle.results.proofs.Checks.{was-passed}

@@ -3,12 +3,12 @@
 use borrow.Author.Needs.{needs}
 use Rattle.unwrap_response.proofs.read_response.Statement.{statement}
 use Rattle.unwrap_response.proofs.read_response.Tie as tie
-use mathlib.Core.Path.{_≡_, sym, ap, _∙_}
+use mathlib.Core.Path.{sym, ap, _∙_}
 use lib.ListN.{length}
 use Rattle.fields.specs.Field.{readField}
 use Rattle.wanted.specs.declared.Wanted.{Wanted}
-use Rattle.protocol.specs.Message.{Response}
-use Rattle.protocol.specs.Answer.{Answer, Outcome, concluded, buffer}
+use Rattle.answers.specs.Message.{Response}
+use Rattle.answers.specs.Answer.{Answer, Outcome, concluded, buffer}
 use Rattle.results.specs.Results.{responseResult}
 use Rattle.results.proofs.RefusedStage.{stage-refused}
 use Rattle.unwrap_response.specs.UnwrapResponse.{payloadOf}

@@ -6,12 +6,11 @@ use Rattle.unwrap_response.proofs.unwrap_response.Tie as tie
 use mathlib.Core.Path.{sym, ap, _∙_}
 use lib.ListN.{length}
 use Rattle.validity.proofs.KeepsTheRules.{served-count}
-use Rattle.protocol.specs.Message.{Response}
-use Rattle.protocol.specs.Answer.{Out, buffer}
+use Rattle.answers.specs.Message.{Response, status}
+use Rattle.answers.specs.Answer.{Out, buffer}
 use Rattle.protocol.proofs.CallCases.{may-unwrap-response}
 use Rattle.results.specs.Results.{responseResult}
 use Rattle.results.proofs.Checks.{was-passed}
-use Rattle.protocol.specs.Message.{status}
 use Rattle.unwrap_response.specs.UnwrapResponse.{payloadOf}
 use Rattle.unwrap_response.proofs.Stages.{when-passed, when-refused}
 

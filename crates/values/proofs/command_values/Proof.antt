@@ -1,6 +1,5 @@
 -- `command_values` meets its contract: a length with Le, or a refusal. Assumes nothing.
 use mathlib.Core.Path.{sym, ap, _∙_}
-use Prim.Native.Nat.{ℕ}
 use borrow.Author.Needs.{needs}
 use Rattle.values.specs.Values.{given, commandValues}
 use Rattle.values.proofs.command_values.Statement.{statement}

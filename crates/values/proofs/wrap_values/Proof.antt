@@ -1,6 +1,5 @@
 -- `wrap_values` meets its contract: a length, or a refusal. Assumes nothing.
 use mathlib.Core.Path.{sym, ap, _∙_}
-use Prim.Native.Nat.{ℕ}
 use borrow.Author.Needs.{needs}
 use Rattle.values.specs.Values.{given, wrapValues}
 use Rattle.values.proofs.wrap_values.Statement.{statement}

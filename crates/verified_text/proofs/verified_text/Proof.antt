@@ -3,7 +3,7 @@
 use borrow.Author.Needs.{needs}
 use Rattle.verified_text.proofs.verified_text.Statement.{statement}
 use Rattle.verified_text.proofs.verified_text.Tie as tie
-use mathlib.Core.Path.{_≡_, ap, _∙_}
+use mathlib.Core.Path.{ap, _∙_}
 use borrow.Author.Tests.{not-true, not-false}
 use Rattle.octets.proofs.Tests.{outcome}
 use Rattle.compare.specs.Same.{same}

@@ -8,12 +8,12 @@ use mir.Syntax.{w8}
 use mir.Val.{Fits}
 use lib.ListN.{length, getD}
 use Rattle.octets.specs.Bytes.{Bytes}
-use Rattle.protocol.specs.Answer.{Out, buffer}
+use Rattle.answers.specs.Answer.{Out, buffer}
 use Rattle.protocol.proofs.CallCases.{may-wrap-command}
 use Rattle.results.specs.Results.{wrapResult}
 use Rattle.results.proofs.Checks.{was-passed}
-use Rattle.results.proofs.KeysTyped.{keys-typed}
-use Rattle.protocol.specs.Message.{header}
+use Rattle.protocol.proofs.KeysTyped.{keys-typed}
+use Rattle.answers.specs.Message.{header}
 use Rattle.wrap_command.proofs.WrapCases.{when-passed, when-refused}
 
 write-command-requires : tie.Need-write-command-requires

@@ -8,13 +8,13 @@ use mir.Syntax.{w8}
 use mir.Val.{Fits}
 use lib.ListN.{length, getD}
 use Rattle.octets.specs.Bytes.{Bytes}
-use Rattle.protocol.specs.Answer.{Out, buffer}
+use Rattle.answers.specs.Answer.{Out, buffer}
 use Rattle.validity.proofs.KeepsTheRules.{served-count}
 use Rattle.protocol.proofs.CallCases.{may-wrap-response}
 use Rattle.results.specs.Results.{wrapResult}
 use Rattle.results.proofs.Checks.{was-passed}
-use Rattle.results.proofs.KeysTyped.{keys-typed}
-use Rattle.protocol.specs.Message.{status}
+use Rattle.protocol.proofs.KeysTyped.{keys-typed}
+use Rattle.answers.specs.Message.{status}
 use Rattle.wrap_response.proofs.WrapCases.{when-passed, when-refused}
 
 write-response-requires : tie.Need-write-response-requires

@@ -1,0 +1,1 @@
+// Messages with their limits, and answers. Definitions; no code.
