@@ -28,11 +28,12 @@ CODE = crates.txt $(shell find crates -name '*.rt')
 test: format gate programs
 	@tail -n 1 build/gate
 
-# Four at a time: rt waits for the slowest of those that it starts together, and each runs on one processor.
+# Four at a time: rt waits for the slowest of those that it starts together, and each runs on one processor. Its last line, with what passed and failed, is kept
+# for the end of `test`.
 gate: build
 	@rm -f build/status
-	@{ RT_JOBS=4 rt ci; echo $$? >build/status; } | tee build/gate
-	@test "$$(cat build/status)" = 0
+	@{ RT_JOBS=4 rt ci; echo $$? >build/status; } | tee build/gate | sed -u '$$d'
+	@test "$$(cat build/status)" = 0 || { tail -n 1 build/gate; exit 1; }
 
 # tables.rt stands 16 to a row, as in the standard; the formatter would put each entry on its own line.
 format: build
@@ -50,7 +51,7 @@ install: build/libpivsm.a
 
 # Two at a time, over archives that are there.
 programs: build/libpivsm.a build/libprimitives.a
-	@$(MAKE) -s -j2 -Otarget PARALLEL=yes header vectors differential sanitized printed compare
+	@$(MAKE) -s -j2 -Otarget TWO_AT_A_TIME=yes header vectors differential sanitized printed compare
 
 header: build/libpivsm.a
 	@c/header_test.sh build/libpivsm.a
@@ -126,7 +127,7 @@ build/libpivsm.a: $(CODE) | packages build
 	@rm -rf $@ target/second
 	@ar rcs $@ $(CALLS:%=build/%.o)
 
-build/libprimitives.a: $(CODE) | packages build
+build/libprimitives.a: $(CODE) | build/libpivsm.a packages build
 	@rt check primitives
 	@rt staticlib primitives >build/log 2>&1 || { cat build/log; exit 1; }
 	@cp target/staticlib/libprimitives.a $@
@@ -147,6 +148,6 @@ build:
 	@mkdir -p build
 
 .PHONY: test gate format programs demo install header vectors differential sanitized mutants printed compare bench packages bench-packages
-ifndef PARALLEL
+ifndef TWO_AT_A_TIME
 .NOTPARALLEL:
 endif

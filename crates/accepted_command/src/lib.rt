@@ -1,4 +1,5 @@
 // A command whose objects were read: its MAC, its text, and the next session (SP 800-73-4 Part 2, 4.2.2 to 4.2.4).
+use command_mac::command_mac;
 use counter::command_counter;
 use fields::FieldRead;
 use fields::Objects;
@@ -6,7 +7,6 @@ use results::CommandAnswer;
 use results::CommandResult;
 use results::refused_command;
 use session::Session;
-use session_mac::command_mac;
 use transitions::command_taken;
 use verified_text::Verified;
 use verified_text::verified_text;

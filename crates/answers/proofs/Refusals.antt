@@ -2,7 +2,9 @@
 -- Assumes nothing.
 use mathlib.Core.Path.{_≡_, refl}
 use mathlib.Core.Bool.{Bool, true, false}
+use borrow.Author.Tests.{ne-eqb}
 use Rattle.octets.specs.Choice.{if_then_else_}
+use Rattle.refusal.specs.Refusal.{number}
 use Rattle.refusal.specs.declared.Refusal.{Refusal}
 use Rattle.refusal.specs.declared.Refusal.the-variants.{BadMac, BadPadding}
 use Rattle.session.specs.Session.{closed}
@@ -24,3 +26,7 @@ bad-mac-closes s = refl
 bad-padding-closes : (s : Session) → afterRefusal s BadPadding ≡ closed s
 unfolding afterRefusal
 bad-padding-closes s = refl
+
+other-refusals-keep : (s : Session) (r : Refusal) → (number r ≡ 9 → ⊥) → (number r ≡ 10 → ⊥) → afterRefusal s r ≡ s
+unfolding afterRefusal
+other-refusals-keep s r mac padding = rw (ne-eqb (number r) 9 mac, ne-eqb (number r) 10 padding)

@@ -1,5 +1,5 @@
 // CBC decryption with AES (SP 800-38A, 6.2), in place.
-use aes::decrypt_block;
+use aes_decryption::decrypt_block;
 use blocks::block_at;
 use blocks::xor_block;
 use cbc::Outcome;

@@ -7,7 +7,7 @@ use Prim.Native.Nat.{ℕ, _+_, _≤_, _<_}
 use native.Mathlib.Omega.{arith}
 use borrow.Author.Tests.{leb-true, ltb-true}
 use lib.ListN.{length, take}
-use Rattle.answers.proofs.Required.{no-gift, require-gave}
+use Rattle.answers.proofs.Required.{not-refused, require-gave}
 use Rattle.octets.proofs.Tests.{both}
 use Rattle.octets.specs.Bytes.{Bytes}
 use Rattle.compare.proofs.SameBytes.{same-eq}
@@ -51,13 +51,13 @@ then-case Q (gave x) more stop go = go x refl
 pub objects-gave : (read : FieldRead) (o : Objects) → objectsOf read ≡ gave o → read ≡ Read o
 unfolding objectsOf
 objects-gave (Read p) o e = let q : p ≡ o = cc in ap Read q
-objects-gave (BadField b) o e = no-gift e
-objects-gave (Missing tag end) o e = no-gift e
+objects-gave (BadField b) o e = not-refused e
+objects-gave (Missing tag end) o e = not-refused e
 
 pub text-gave : (t : Option Bytes) (d : Bytes) → textOf t ≡ gave d → t ≡ some d
 unfolding textOf
 text-gave (some x) d e = let q : x ≡ d = cc in ap some q
-text-gave none d e = no-gift e
+text-gave none d e = not-refused e
 
 -- ---- turns
 

@@ -302,6 +302,15 @@ answer-to-nothing : Transcript
 answer-to-nothing =
     record { commandsWrapped = entry ∷ []; commandFields = []; commandsAccepted = []; responsesWrapped = reply ∷ []; responseFields = []; responsesAccepted = [] }
 
+-- one wrapped, and no bytes handed out for it
+field-lost : Transcript
+field-lost =
+    record { commandsWrapped = entry ∷ []; commandFields = [] ∷ []; commandsAccepted = []; responsesWrapped = []; responseFields = []; responsesAccepted = [] }
+
+response-field-lost : Transcript
+response-field-lost =
+    record { commandsWrapped = entry ∷ []; commandFields = []; commandsAccepted = entry ∷ []; responsesWrapped = reply ∷ []; responseFields = [] ∷ []; responsesAccepted = [] }
+
 -- the data's length of the first response
 dataOf : List Response → ℕ
 dataOf [] = 0
@@ -346,6 +355,9 @@ record Computed : Type 0 where
   repeated-differs : Broken repeated
   at-most-one-outstanding : Agrees toy keys two-outstanding → ⊥
   no-answer-to-nothing : Agrees toy keys answer-to-nothing → ⊥
+  -- what was handed out is the field
+  field-differs : Agrees toy keys field-lost → ⊥
+  response-field-differs : Agrees toy keys response-field-lost → ⊥
   -- eight wrong bytes break nothing
   wrong-mac : MacBreak toy (keys .mac) [] [] (zeros 8) → ⊥
   -- a wrong MAC is refused; a repeated response is, and what follows is accepted
@@ -360,7 +372,7 @@ record Computed : Type 0 where
   same-chaining-value : Excepted flat keys begin repeated
 
 computed : Computed
-unfolding toyMac xorAll toyEncrypt toyDecrypt toy keys verify getData okay certificate fieldOf begin exchange two counts same padding pad paddedLength marked markBefore unpad lengthField readLength isShortest rank allowed rightSize rightSecond rightValue need_else_⨾_ withLength readObject notedObject ended onObject walk readField object encryptedData leObject statusWord macObject commandObjects responseObjects commandField responseField ciphertextLength encryptedDataLength commandLength responseLength encodedHeader commandMacInput responseMacInput allZero keysEnd keysZero mcvsZero keepsPhase valid countsAsOpen isTurn keysFit openSuite opening dataIn insPermitted leNeed dataNeed commandPermitted statusPermitted commandWanted responseWanted bigEndian commandCounter responseCounter require_else_⨾_ _and-then_ afterRefusal concluded objectsOf textOf commandInput wrapCommandChecks unwrapCommandChecks commandMac commandCiphertext commandWrapped commandAccepted hostWraps openCommand cardUnwraps wrapResponseChecks unwrapResponseChecks responseMac responseCiphertext responseWrapped responseAccepted cardWraps openResponse hostUnwraps lastMac chaining encrypted wrapped received acceptedCommand acceptedResponse noted entered moved does step run flat among distinct chainingValues forged received-as other-header other-data authenticate with-le more-commands more-responses header-changed data-changed le-changed status-changed one-wrapped never-wrapped check repeated mac-changed response-again mixed allBytes response-data-changed entry reply two-outstanding answer-to-nothing dataOf p2Of sizeOf leOf sw1Of
+unfolding toyMac xorAll toyEncrypt toyDecrypt toy keys verify getData okay certificate fieldOf begin exchange two counts same padding pad paddedLength marked markBefore unpad lengthField readLength isShortest rank allowed rightSize rightSecond rightValue need_else_⨾_ withLength readObject notedObject ended onObject walk readField object encryptedData leObject statusWord macObject commandObjects responseObjects commandField responseField ciphertextLength encryptedDataLength commandLength responseLength encodedHeader commandMacInput responseMacInput allZero keysEnd keysZero mcvsZero keepsPhase valid countsAsOpen isTurn keysFit openSuite opening dataIn insPermitted leNeed dataNeed commandPermitted statusPermitted commandWanted responseWanted bigEndian commandCounter responseCounter require_else_⨾_ _and-then_ afterRefusal concluded objectsOf textOf commandInput wrapCommandChecks unwrapCommandChecks commandMac commandCiphertext commandWrapped commandAccepted hostWraps openCommand cardUnwraps wrapResponseChecks unwrapResponseChecks responseMac responseCiphertext responseWrapped responseAccepted cardWraps openResponse hostUnwraps lastMac chaining encrypted wrapped received acceptedCommand acceptedResponse noted entered moved does step run flat among distinct chainingValues forged received-as other-header other-data authenticate with-le more-commands more-responses header-changed data-changed le-changed status-changed one-wrapped never-wrapped check repeated mac-changed response-again mixed allBytes response-data-changed entry reply two-outstanding answer-to-nothing field-lost response-field-lost dataOf p2Of sizeOf leOf sw1Of
 computed =
     record {
       counted = refl;
@@ -377,6 +389,8 @@ computed =
       repeated-differs = λ v. let h = v .a≤w in omega (arith, h);
       at-most-one-outstanding = λ v. let h = v .w≤r+1 in omega (arith, h);
       no-answer-to-nothing = λ v. let h = v .s≤a in omega (arith, h);
+      field-differs = λ v. let e : _≡_ {A = ℕ} 0 10 = ap length (v .commandsWritten .0) in omega (arith, e);
+      response-field-differs = λ v. let e : _≡_ {A = ℕ} 0 14 = ap length (v .responsesWritten .0) in omega (arith, e);
       wrong-mac = λ b. let e = ap (λ (l : Bytes). getD l 0 0) (b .right) in omega (arith, e);
       mac-refused = refl;
       repetition-refused = refl;

@@ -1,7 +1,6 @@
 // The card unwraps a command (SP 800-73-4 Part 2, 4.2.2 to 4.2.4): the MAC is checked before anything is decrypted, the padding before anything is
 // written.
 use accepted_command::open_command;
-use command_checks::unwrap_command_checks;
 use fields::FieldRead;
 use fields::read_field;
 use permission::command_wanted;
@@ -10,6 +9,7 @@ use results::Checked;
 use results::CommandResult;
 use results::refused_command;
 use session::Session;
+use unwrap_command_checks::unwrap_command_checks;
 ghost use mathlib.Core.Path.{_≡_};
 ghost use Prim.Native.Nat.{_<_};
 ghost use lib.ListN.{length};

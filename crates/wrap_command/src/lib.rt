@@ -1,9 +1,9 @@
 // The host wraps a command (SP 800-73-4 Part 2, 4.2.2 to 4.2.4).
-use command_checks::wrap_command_checks;
 use results::Checked;
 use results::WrapResult;
 use results::refused_wrap;
 use session::Session;
+use wrap_command_checks::wrap_command_checks;
 use written_command::write_command;
 ghost use mathlib.Core.Path.{_≡_};
 ghost use lib.ListN.{length};

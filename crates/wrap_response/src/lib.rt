@@ -1,9 +1,9 @@
 // The card wraps a response (SP 800-73-4 Part 2, 4.2.2 and 4.2.5).
-use response_checks::wrap_response_checks;
 use results::Checked;
 use results::WrapResult;
 use results::refused_wrap;
 use session::Session;
+use wrap_response_checks::wrap_response_checks;
 use written_response::write_response;
 ghost use mathlib.Core.Path.{_≡_};
 ghost use lib.ListN.{length};

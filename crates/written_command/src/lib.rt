@@ -1,4 +1,5 @@
 // A command that passed its tests, written: its objects, their MAC, and the next session (SP 800-73-4 Part 2, 4.2.2 to 4.2.4).
+use command_mac::command_mac;
 use counter::command_counter;
 use encryption::encrypt_text;
 use field_objects::put_command_objects;
@@ -6,7 +7,6 @@ use objects::put_mac;
 use results::WrapAnswer;
 use results::WrapResult;
 use session::Session;
-use session_mac::command_mac;
 use session_mac::truncated;
 use transitions::command_taken;
 ghost use mathlib.Core.Path.{_≡_};
