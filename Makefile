@@ -17,20 +17,22 @@ SANITIZE = -g -fsanitize=address,undefined -fno-sanitize-recover=all
 export TMPDIR := $(shell t=/dev/shm/make.$$$$; { cp /bin/true $$t && $$t && test $$(df -Pk /dev/shm | awk 'END { print $$4 }') -gt 2000000; } 2>/dev/null && \
     echo /dev/shm || echo $${TMPDIR:-/tmp}; rm -f $$t)
 
-# The crates that export the calls of c/pivsm.h.
-CALLS = $(patsubst crates/%/src/lib.rt,%,$(shell grep -l 'pub extern "C" fn' crates/capi_*/src/lib.rt))
+# The crates that export the calls of c/pivsm.h, and those of c/primitives.h.
+exporting = $(patsubst crates/%/src/lib.rt,%,$(shell grep -l 'pub extern "C" fn' $(1)))
+CALLS = $(call exporting,crates/capi_*/src/lib.rt)
+PRIMITIVES = $(call exporting,crates/primitive_*/src/lib.rt)
 # Programs whose output stands in c/NAME.stdout; that of exchange_calls is exchange's.
 PRINTED = example exchange exchange_calls boundary_cases
 DIFFERENTIAL = $(filter-out %/vectors.c,$(wildcard c/differential/*.c)) c/reference.c
 HEADERS = $(wildcard c/*.h c/differential/*.h)
 CODE = crates.txt $(shell find crates -name '*.rt')
 
-test: format gate programs
+test: programs
 	@tail -n 1 build/gate
 
 # Four at a time: rt waits for the slowest of those that it starts together, and each runs on one processor. Its last line, with what passed and failed, is kept
 # for the end of `test`.
-gate: build
+gate: format
 	@rm -f build/status
 	@{ RT_JOBS=4 rt ci; echo $$? >build/status; } | tee build/gate | sed -u '$$d'
 	@test "$$(cat build/status)" = 0 || { tail -n 1 build/gate; exit 1; }
@@ -40,7 +42,8 @@ format: build
 	@rt fmt --check >build/format 2>&1 || test -s build/format
 	@! grep -v '/crates/sbox/src/tables.rt is not in the layout$$' build/format
 
-demo: build/example
+demo:
+	@$(MAKE) -s -j2 build/example
 	@build/example
 
 install: build/libpivsm.a
@@ -49,9 +52,8 @@ install: build/libpivsm.a
 	@install -m 644 build/libpivsm.a $(DESTDIR)$(PREFIX)/lib
 	@sed 's|@PREFIX@|$(PREFIX)|; s|@VERSION@|$(VERSION)|' c/pivsm.pc.in >$(DESTDIR)$(PREFIX)/lib/pkgconfig/pivsm.pc
 
-# Two at a time, over archives that are there.
-programs: build/libpivsm.a build/libprimitives.a
-	@$(MAKE) -s -j2 -Otarget TWO_AT_A_TIME=yes header vectors differential sanitized printed compare
+programs: gate
+	@$(MAKE) -s -j2 -Otarget header vectors differential sanitized printed compare
 
 header: build/libpivsm.a
 	@c/header_test.sh build/libpivsm.a
@@ -113,24 +115,23 @@ build/bench_messages: c/bench_messages.c c/turns.c c/plain_aes.c c/ciphers.c c/p
 
 $(PRINTED:%=build/%) $(addprefix build/,vectors differential differential_sanitized compare bench bench_messages): $(HEADERS) | packages build
 
-# rt knows what is already proved, as after rt ci. Each crate's archive is one object, with its exported calls alone; rt makes it on one processor, and two rt in one
-# tree are in each other's way, so a second tree has half of them.
-archives = for crate in $(1); do rt staticlib $$crate >target/log/archive 2>&1 || { cat target/log/archive; exit 1; }; done
-FIRST = $(wordlist 1,4,$(CALLS))
-SECOND = $(filter-out $(FIRST),$(CALLS))
+# rt knows what is already proved, as after rt ci.
+build/checked: $(CODE) | build
+	@rt check $(CALLS) $(PRIMITIVES)
+	@touch $@
 
-build/libpivsm.a: $(CODE) | packages build
-	@rt check $(CALLS)
-	@rm -rf target/second && mkdir -p target/second/target && cp -r crates crates.txt target/second && cp -r target/rlib target/stamp target/log target/second/target
-	@( $(call archives,$(FIRST)) ) & half=$$!; ( cd target/second && $(call archives,$(SECOND)) ) && wait $$half
-	@cd build && for archive in $(FIRST:%=../target/staticlib/lib%.a) $(SECOND:%=../target/second/target/staticlib/lib%.a); do ar x $$archive || exit 1; done
-	@rm -rf $@ target/second
-	@ar rcs $@ $(CALLS:%=build/%.o)
+# A crate's archive is one object, with its exported calls alone. Two rt in one tree are in each other's way, so each object is made in a tree of its own.
+build/%.o: build/checked
+	@rm -rf target/archive/$* && mkdir -p target/archive/$*/target
+	@cp -r crates crates.txt target/archive/$* && cp -rl target/rlib target/archive/$*/target && cp -r target/stamp target/log target/archive/$*/target
+	@cd target/archive/$* && { rt staticlib $* >log 2>&1 || { cat log; exit 1; }; }
+	@cd build && ar x ../target/archive/$*/target/staticlib/lib$*.a && rm -rf ../target/archive/$*
 
-build/libprimitives.a: $(CODE) | build/libpivsm.a packages build
-	@rt check primitives
-	@rt staticlib primitives >build/log 2>&1 || { cat build/log; exit 1; }
-	@cp target/staticlib/libprimitives.a $@
+build/libpivsm.a: $(CALLS:%=build/%.o)
+	@ar rcs $@ $^
+
+build/libprimitives.a: $(PRIMITIVES:%=build/%.o)
+	@ar rcs $@ $^
 
 # Each installs what is missing.
 packages:
@@ -148,6 +149,3 @@ build:
 	@mkdir -p build
 
 .PHONY: test gate format programs demo install header vectors differential sanitized mutants printed compare bench packages bench-packages
-ifndef TWO_AT_A_TIME
-.NOTPARALLEL:
-endif

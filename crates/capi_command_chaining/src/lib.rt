@@ -1,41 +1,17 @@
 // Command chaining for programs in C (c/pivsm.h).
-use chaining_values::fragment_values;
-use chaining_values::reassembly_values;
-use command_chaining::CommandChain;
+use chain_numbers::chain_number;
+use chain_numbers::chain_of;
+use command_chaining_values::fragment_values;
+use command_chaining_values::reassembly_values;
 use fragment_command::fragment_command;
 use reassemble_command::reassemble_command;
 ghost use mathlib.Core.Path.{_≡_};
-ghost use Prim.Native.Nat.{_≤_};
 ghost use lib.ListN.{length};
 ghost use Rattle.answers.specs.Answer.{buffer};
 ghost use Rattle.command_chaining.specs.Reassembly.{reassemblyBuffer};
 ghost use Rattle.chaining_values.specs.ChainingValues.{reassemblyValues};
-ghost use Rattle.capi_command_chaining.specs.CommandChains.{chainNumber, chainOf, fragmentOf, fragmentGives, reassembleOn};
-
-fn chain_of(n: u64) -> CommandChain
-    ensures { λ chain. ⌜ chain ≡ chainOf n ⌝ }
-{
-    CommandChain {
-        len: (n / 16777216) as usize,
-        ins: (n / 65536 % 256) as u8,
-        p1: (n / 256 % 256) as u8,
-        p2: (n % 256) as u8,
-    }
-}
-
-fn wide(b: u8) -> u64
-    ensures { λ n. ⌜ n ≡ b ⌝ }
-{
-    b as u64
-}
-
-fn chain_number(chain: CommandChain) -> u64
-    requires { ⌜ chain .len ≤ 2066 ⌝ }
-    ensures { λ n. ⌜ n ≡ chainNumber chain ⌝ }
-{
-    let len = chain.len as u64;
-    len * 16777216 + wide(chain.ins) * 65536 + wide(chain.p1) * 256 + wide(chain.p2)
-}
+ghost use Rattle.chain_numbers.specs.ChainNumbers.{chainNumber, chainOf};
+ghost use Rattle.capi_command_chaining.specs.CommandChains.{fragmentOf, fragmentGives, reassembleOn};
 
 // Refusals 15, 4, 14 and 6.
 #[no_mangle]

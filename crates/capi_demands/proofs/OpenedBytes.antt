@@ -27,7 +27,7 @@ use Rattle.saved.specs.Saved.{encode}
 use Rattle.answers.specs.Answer.{Answer, refused, gave, require_else_⨾_, buffer}
 use Rattle.results.specs.Results.{wrapAnswer}
 use Rattle.values.specs.Values.{wrapValues}
-use Rattle.capi_open.specs.OpenOn.{openedAs}
+use Rattle.opened_bytes.specs.OpenOn.{openedAs}
 use Rattle.capi_demands.proofs.SessionLengths.{Lengths}
 
 never : {P : Type 0} → _≡_ {A = ℕ} 0 1 → P

@@ -37,7 +37,7 @@ use Rattle.protocol.specs.Transcript.{does}
 use Rattle.protocol.proofs.Theorems.{demand1}
 use Rattle.results.specs.Results.{wrapAnswer, commandAnswer, responseAnswer}
 use Rattle.values.specs.Values.{wrapValues, commandValues, responseValues}
-use Rattle.capi_open.specs.OpenOn.{openedAs, bytesOf, openOn}
+use Rattle.opened_bytes.specs.OpenOn.{openedAs, bytesOf, openOn}
 use Rattle.capi_demands.specs.Calls.{hostKeys, cardKeys, Event, wrapsCommand, unwrapsCommand, wrapsResponse, unwrapsResponse, closes, held, len, before, number, written, status, le, call}
 use Rattle.capi_demands.specs.RefusalKeeps.{RefusalKeeps, SixteenExactly, RestKeeps, Refuses, HostOpeningRefuses, CardOpeningRefuses}
 use Rattle.capi_demands.proofs.OpenServed.{hit, met}

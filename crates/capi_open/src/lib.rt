@@ -1,48 +1,12 @@
 // Opening a session, for programs in C (c/pivsm.h).
-use refusal::Refusal;
-use saved::SIZE;
-use session::Opened;
-use session::Opening;
+use opened_bytes::put_opened;
 use session::Session;
-use session_bytes::replace_session;
-use values::refusal_values;
 ghost use mathlib.Core.Path.{_≡_};
 ghost use lib.ListN.{length};
 ghost use Rattle.stored_keys.specs.StoredKeys.{KeysOfBytes, keys};
 ghost use Rattle.session.specs.declared.Side.the-variants.{Host, Card};
 ghost use Rattle.answers.specs.Answer.{buffer};
-ghost use Rattle.values.specs.Values.{refusalValues};
-ghost use Rattle.capi_open.specs.OpenOn.{bytesOf, openOn, openGives};
-
-// What a refusal gives.
-fn refused(refusal: Refusal, len: &mut usize) -> u32
-    ensures number { λ number. ⌜ number ≡ refusalValues refusal .number ⌝ }
-    ensures len { λ _. ⌜ now (len .exit) ≡ refusalValues refusal .len ⌝ }
-{
-    let values = refusal_values(refusal);
-    *len = values.len;
-    values.number
-}
-
-// A session that was opened, and where there is room for it.
-fn put_opened(opened: Opened, session: &mut [u8], len: &mut usize) -> u32
-    ensures number { λ number. ⌜ number ≡ openGives (bytesOf opened (length (now (session .entry)))) .number ⌝ }
-    ensures len { λ _. ⌜ now (len .exit) ≡ openGives (bytesOf opened (length (now (session .entry)))) .len ⌝ }
-    ensures session { λ _. ⌜ now (session .exit) ≡ buffer (λ bytes. bytes) (now (session .entry)) (bytesOf opened (length (now (session .entry)))) ⌝ }
-{
-    let answer = opened.answer;
-    let fresh = opened.session;
-    match answer {
-        Opening::Opened => {
-            if session.len() < SIZE {
-                return refused(Refusal::BufferTooSmall(SIZE), len);
-            }
-            *len = replace_session(fresh, session);
-            0
-        }
-        Opening::Refused(refusal) => refused(refusal, len),
-    }
-}
+ghost use Rattle.opened_bytes.specs.OpenOn.{openOn, openGives};
 
 // Refusals 11, 12 and 6. `bytes` is what the types say of the arguments; the demands use it.
 #[no_mangle]

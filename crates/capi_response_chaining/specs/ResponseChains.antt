@@ -1,17 +1,13 @@
 -- The calls of c/pivsm.h on response chaining. A chain is one number for a program in C, the length reassembled; 0 is the empty chain.
 -- Assumes nothing.
 use Prim.Native.Nat.{ℕ, _/_, _%_}
-use lib.Dec.{leb}
 use Rattle.octets.specs.Bytes.{Bytes}
-use Rattle.refusal.specs.declared.Refusal.the-variants.{BufferTooSmall}
 use Rattle.answers.specs.Message.{status}
-use Rattle.answers.specs.Answer.{Answer, gave, require_else_⨾_}
-use Rattle.results.specs.Results.{wrapAnswer}
+use Rattle.answers.specs.Answer.{Answer}
 use Rattle.response_chaining.specs.Fragment.{next, fragmentResponse, fragmentAnswer}
-use Rattle.response_chaining.specs.Reassembly.{chain, getResponse, reassembleResponse}
+use Rattle.response_chaining.specs.Reassembly.{chain, reassembleResponse}
 use Rattle.response_chaining.specs.declared.ResponseReassembly.{ResponseReassembly}
 use Rattle.chaining_values.specs.ChainingValues.{responseFragmentValues}
-use Rattle.values.specs.Values.{wrapValues}
 use Rattle.values.specs.declared.Values.{Values}
 
 -- sw: the status word, SW1 * 256 + SW2
@@ -23,9 +19,3 @@ fragmentGives field at le answer = responseFragmentValues (fragmentAnswer (next 
 
 abbrev pub reassembleOn : ℕ → Bytes → ℕ → ResponseReassembly
 reassembleOn n bytes room = reassembleResponse (chain n) bytes room
-
-unfoldable pub getResponseOf : ℕ → ℕ → Answer Bytes
-getResponseOf le room = require leb 5 room else BufferTooSmall 5 ⨾ gave (getResponse le)
-
-abbrev pub getResponseGives : Answer Bytes → Values
-getResponseGives answer = wrapValues (wrapAnswer answer)

@@ -1,17 +1,15 @@
 // Response chaining for programs in C (c/pivsm.h).
-use chaining_values::response_fragment_values;
-use chaining_values::response_reassembly_values;
 use fragment_response::fragment_response;
-use octets::put_bytes;
-use reassemble_response::get_response;
 use reassemble_response::reassemble_response;
 use response_chaining::ResponseChain;
+use response_chaining_values::response_fragment_values;
+use response_chaining_values::response_reassembly_values;
 ghost use mathlib.Core.Path.{_≡_};
 ghost use lib.ListN.{length};
 ghost use Rattle.answers.specs.Answer.{buffer};
 ghost use Rattle.response_chaining.specs.Reassembly.{chain as chainOf, reassemblyBuffer};
 ghost use Rattle.chaining_values.specs.ChainingValues.{responseReassemblyValues};
-ghost use Rattle.capi_response_chaining.specs.ResponseChains.{fragmentOf, fragmentGives, reassembleOn, getResponseOf, getResponseGives};
+ghost use Rattle.capi_response_chaining.specs.ResponseChains.{fragmentOf, fragmentGives, reassembleOn};
 
 // Refusals 3, 4, 14 and 6.
 #[no_mangle]
@@ -64,20 +62,4 @@ pub extern "C" fn pivsm_reassemble_response(
     *written = values.len;
     *sw = values.status;
     values.number
-}
-
-// Refusal 6.
-#[no_mangle]
-pub extern "C" fn pivsm_get_response(le: u8, apdu: &mut [u8], written: &mut usize) -> u32
-    ensures number { λ number. ⌜ number ≡ getResponseGives (getResponseOf le (length (now (apdu .entry)))) .number ⌝ }
-    ensures written { λ _. ⌜ now (written .exit) ≡ getResponseGives (getResponseOf le (length (now (apdu .entry)))) .len ⌝ }
-    ensures apdu { λ _. ⌜ now (apdu .exit) ≡ buffer (λ bytes. bytes) (now (apdu .entry)) (getResponseOf le (length (now (apdu .entry)))) ⌝ }
-{
-    *written = 5;
-    if apdu.len() < 5 {
-        return 6;
-    }
-    let bytes = get_response(le);
-    put_bytes(apdu, 0, &bytes);
-    0
 }

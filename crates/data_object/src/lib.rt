@@ -1,11 +1,11 @@
 // One data object of a field, read at an index (SP 800-73-4 Part 2, 4.2; document 01, "Objects, encryption and MAC").
 use ber_length::read_length;
-use object_values::right_size;
+use object_order::allowed;
+use object_sizes::right_size;
 use object_values::right_value;
 use tlv::LengthRead;
 use tlv::is_shortest;
 use wanted::Wanted;
-use wanted::allowed;
 ghost use mathlib.Core.Path.{_≡_};
 ghost use Prim.Native.Nat.{_<_};
 ghost use lib.ListN.{length};

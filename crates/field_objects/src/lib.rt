@@ -1,5 +1,5 @@
 // The objects of a field that its MAC covers, written in their order (SP 800-73-4 Part 2, 4.2.3).
-use objects::put_encrypted_data;
+use encrypted_data::put_encrypted_data;
 use objects::put_le;
 use octets::put_bytes;
 ghost use Prim.Native.Nat.{_<_, _≤_};

@@ -1,10 +1,8 @@
 // Which INS and statuses are permitted, what Le and data each INS takes, and what fields are read for (document 01, "Objects, encryption and MAC").
 use wanted::Need;
-use wanted::Second;
-use wanted::Wanted;
 ghost use mathlib.Core.Path.{_≡_};
 ghost use Rattle.answers.specs.Message.{status};
-ghost use Rattle.permission.specs.Permission.{insPermitted, leNeed, dataNeed, statusPermitted, commandWanted, responseWanted};
+ghost use Rattle.permission.specs.Permission.{insPermitted, leNeed, dataNeed, statusPermitted};
 
 const VERIFY: u8 = 0x20;
 
@@ -13,11 +11,6 @@ const CHANGE_REFERENCE_DATA: u8 = 0x24;
 const GET_DATA: u8 = 0xCB;
 
 const GENERAL_AUTHENTICATE: u8 = 0x87;
-
-// The most encrypted data in a field that is read.
-const MAX_COMMAND_CIPHERTEXT: usize = 2048;
-
-const MAX_RESPONSE_CIPHERTEXT: usize = 16384;
 
 pub fn ins_permitted(ins: u8) -> bool
     ensures { λ r. ⌜ r ≡ insPermitted ins ⌝ }
@@ -62,28 +55,4 @@ pub fn status_permitted(sw1: u8, sw2: u8) -> bool
     ensures { λ r. ⌜ r ≡ statusPermitted (status sw1 sw2) ⌝ }
 {
     sw1 != 0x61
-}
-
-// What a command's field is read for.
-pub fn command_wanted(ins: u8) -> Wanted
-    ensures { λ wanted. ⌜ wanted ≡ commandWanted ins ⌝ }
-{
-    let data = data_need(ins);
-    let le = le_need(ins);
-    Wanted {
-        data,
-        limit: MAX_COMMAND_CIPHERTEXT,
-        second: Second::Le(le),
-    }
-}
-
-// What a response's field is read for, beside a status word.
-pub fn response_wanted(sw1: u8, sw2: u8) -> Wanted
-    ensures { λ wanted. ⌜ wanted ≡ responseWanted (status sw1 sw2) ⌝ }
-{
-    Wanted {
-        data: Need::May,
-        limit: MAX_RESPONSE_CIPHERTEXT,
-        second: Second::Status(sw1, sw2),
-    }
 }

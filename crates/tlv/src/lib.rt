@@ -1,9 +1,6 @@
 // BER-TLV data objects of secure messaging (SP 800-73-4 Part 2, 4.2.1): their lengths.
-use octets::put_bytes;
 ghost use mathlib.Core.Path.{_≡_};
-ghost use Prim.Native.Nat.{_+_, _<_, _≤_};
 ghost use lib.ListN.{length};
-ghost use Rattle.octets.specs.Write.{Wrote};
 ghost use Rattle.tlv.specs.Length.{lengthField, isShortest};
 
 pub enum LengthRead {
@@ -23,20 +20,6 @@ pub fn length_size(n: usize) -> usize
         return 2;
     }
     3
-}
-
-// Writes n's shortest length field; the index behind it.
-pub fn put_length(out: &mut [u8], at: usize, n: usize) -> usize
-    requires { ⌜ (n < 65536) × (at + length (lengthField n) ≤ length (now out)) ⌝ }
-    ensures { λ next. ⌜ Wrote (now (out .entry)) at (lengthField n) next (now (out .exit)) ⌝ }
-{
-    if n < 128 {
-        return put_bytes(out, at, &[(n % 256) as u8]);
-    }
-    if n < 256 {
-        return put_bytes(out, at, &[0x81, (n % 256) as u8]);
-    }
-    put_bytes(out, at, &[0x82, (n / 256 % 256) as u8, (n % 256) as u8])
 }
 
 // Whether a length read from a field of that size stood in its shortest form.

@@ -1,9 +1,9 @@
 // The card unwraps a command (SP 800-73-4 Part 2, 4.2.2 to 4.2.4): the MAC is checked before anything is decrypted, the padding before anything is
 // written.
 use accepted_command::open_command;
+use field_wanted::command_wanted;
 use fields::FieldRead;
 use fields::read_field;
-use permission::command_wanted;
 use refusal::Refusal;
 use results::Checked;
 use results::CommandResult;

@@ -1,9 +1,9 @@
 // The host unwraps a response (SP 800-73-4 Part 2, 4.2.2 and 4.2.5): the MAC is checked before anything is decrypted, the padding before anything is
 // written.
 use accepted_response::open_response;
+use field_wanted::response_wanted;
 use fields::FieldRead;
 use fields::read_field;
-use permission::response_wanted;
 use refusal::Refusal;
 use results::Checked;
 use results::ResponseResult;

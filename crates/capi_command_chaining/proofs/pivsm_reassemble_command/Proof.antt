@@ -8,8 +8,8 @@ use Rattle.command_chaining.specs.declared.CommandChain.{CommandChain}
 use Rattle.command_chaining.specs.declared.Reassembly.{Reassembly}
 use Rattle.chaining_values.specs.ChainingValues.{reassemblyValues}
 use Rattle.values.specs.declared.Values.{Values}
-use Rattle.capi_command_chaining.specs.CommandChains.{chainNumber}
-use Rattle.capi_command_chaining.proofs.ChainNumbers.{left-short}
+use Rattle.chain_numbers.specs.ChainNumbers.{chainNumber}
+use Rattle.chain_numbers.proofs.ChainNumbers.{left-short}
 use Rattle.capi_command_chaining.proofs.pivsm_reassemble_command.Statement.{statement}
 use Rattle.capi_command_chaining.proofs.pivsm_reassemble_command.Tie as tie
 
