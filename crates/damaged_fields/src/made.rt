@@ -1,7 +1,7 @@
 // Fields made by hand. C stands for encrypted data, M for the MAC.
 use crate::row;
-use fields::read_field;
 use octets::put_bytes;
+use read_field::read_field;
 use wanted::Need;
 use wanted::Second;
 use wanted::Wanted;

@@ -3,7 +3,7 @@
 mod made;
 mod row;
 
-use fields::read_field;
+use read_field::read_field;
 use wanted::Need;
 use wanted::Second;
 use wanted::Wanted;

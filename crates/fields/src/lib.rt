@@ -1,11 +1,9 @@
-// The data objects of a secure messaging field, read from left to right (SP 800-73-4 Part 2, 4.2; document 01, "Objects,
-// encryption and MAC").
+// What stands in a secure messaging field, object by object, and what the walk over it ends with (SP 800-73-4 Part 2, 4.2; document 01,
+// "Objects, encryption and MAC").
 use data_object::Breach;
 use data_object::DataObject;
 use data_object::ObjectRead;
 use data_object::Rule;
-use object_order::rank;
-use reader::read_at;
 use wanted::Need;
 use wanted::Wanted;
 use wanted::second_need;
@@ -13,7 +11,7 @@ use wanted::second_tag;
 ghost use mathlib.Core.Path.{_≡_};
 ghost use Prim.Native.Nat.{_+_, _≤_};
 ghost use Rattle.wanted.specs.Wanted.{lacks};
-ghost use Rattle.fields.specs.Field.{noted, refused, ended, readField};
+ghost use Rattle.fields.specs.Field.{noted, refused, ended};
 
 // What stands in a field. '87', if it is there, stands first.
 pub struct Objects {
@@ -36,7 +34,7 @@ pub enum FieldRead {
 }
 
 // The objects with one more.
-fn noted(objects: Objects, object: DataObject) -> Objects
+pub fn noted(objects: Objects, object: DataObject) -> Objects
     requires { ⌜ (1 ≤ object .len) × (object .value + object .len ≡ object .next) ⌝ }
     ensures { λ r. ⌜ r ≡ noted objects object ⌝ }
 {
@@ -68,7 +66,7 @@ fn noted(objects: Objects, object: DataObject) -> Objects
 }
 
 // What a reading that gave no object, or an object that was not wanted, ends the walk with.
-fn refused(read: ObjectRead) -> FieldRead
+pub fn refused(read: ObjectRead) -> FieldRead
     ensures { λ r. ⌜ r ≡ refused read ⌝ }
 {
     match read {
@@ -92,7 +90,7 @@ fn lacks(need: Need, there: bool) -> bool
 }
 
 // At the field's end, after an object at place `after`: the objects, or the first that is lacking.
-fn ended(wanted: Wanted, objects: Objects, after: usize, end: usize) -> FieldRead
+pub fn ended(wanted: Wanted, objects: Objects, after: usize, end: usize) -> FieldRead
     ensures { λ r. ⌜ r ≡ ended wanted objects after end ⌝ }
 {
     let data = wanted.data;
@@ -107,32 +105,4 @@ fn ended(wanted: Wanted, objects: Objects, after: usize, end: usize) -> FieldRea
         return FieldRead::Missing(0x8E, end);
     }
     FieldRead::Read(objects)
-}
-
-// The objects of a field, or the first breach, or the first object that is lacking.
-pub fn read_field(wanted: Wanted, field: &[u8]) -> FieldRead
-    ensures { λ r. ⌜ r ≡ readField wanted (now (field .entry)) ⌝ }
-{
-    let second = wanted.second;
-    let mut objects = Objects {
-        ciphertext: 0,
-        ciphertext_len: 0,
-        second: false,
-        mac_start: 0,
-        mac: 0,
-    };
-    let mut place: usize = 0;
-    let mut at: usize = 0;
-    while at < field.len() {
-        let step = read_at(wanted, place, field, at);
-        let read = step.read;
-        let ObjectRead::Object(object) = read else {
-            return refused(read);
-        };
-        let more = noted(objects, object);
-        objects = more;
-        place = rank(second, object.tag);
-        at = step.at;
-    }
-    ended(wanted, objects, place, field.len())
 }

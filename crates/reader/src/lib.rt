@@ -1,43 +1,19 @@
 // A reader that keeps the lent field and its place (document 01, "Objects, encryption and MAC").
 use data_object::ObjectRead;
-use data_object::read_object;
+use read_step::Step;
+use read_step::read_step;
 use wanted::Wanted;
 ghost use mathlib.Core.Path.{_≡_};
 ghost use Prim.Native.Nat.{_<_};
 ghost use lib.ListN.{length};
 ghost use Rattle.data_object.specs.Object.{readObject};
-ghost use Rattle.reader.specs.Reader.{opened, moved, indexAfter, readStep};
+ghost use Rattle.reader.specs.Reader.{opened, moved};
+ghost use Rattle.read_step.specs.Step.{readStep};
 
 // The field, and the index of the next object.
 pub struct Reader<'a> {
     field: &'a [u8],
     at: usize,
-}
-
-// What a reader read, and its index then.
-pub struct Step {
-    pub read: ObjectRead,
-    pub at: usize,
-}
-
-// Behind an object; a breach is not passed.
-fn index_after(read: ObjectRead, at: usize) -> usize
-    ensures { λ r. ⌜ r ≡ indexAfter read at ⌝ }
-{
-    match read {
-        ObjectRead::Object(object) => object.next,
-        ObjectRead::Malformed(_) => at,
-    }
-}
-
-// The work of a reader at index `at`, on the field itself.
-fn read_step(wanted: Wanted, after: usize, field: &[u8], at: usize) -> Step
-    requires { ⌜ at < length (now field) ⌝ }
-    ensures { λ r. ⌜ r ≡ readStep wanted after (now (field .entry)) at ⌝ }
-{
-    let read = read_object(wanted, after, field, at);
-    let next = index_after(read, at);
-    Step { read, at: next }
 }
 
 impl<'a> Reader<'a> {

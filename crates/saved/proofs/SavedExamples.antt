@@ -7,7 +7,8 @@ use Rattle.session.specs.Session.{closedAt, fresh}
 use Rattle.transitions.specs.Transitions.{commandTaken}
 use Rattle.session.specs.declared.Side.the-variants.{Host, Card}
 use Rattle.suite.specs.declared.Suite.the-variants.{Cs2, Cs7}
-use Rattle.validity.specs.Valid.{allZero, keysZero, mcvsZero, keepsPhase, valid}
+use Rattle.validity.specs.Valid.{keepsPhase, valid}
+use Rattle.zero_bytes.specs.ZeroBytes.{allZero, keysZero, mcvsZero}
 use Rattle.saved.specs.Saved.{header, keys, mcvs, encode, headed, sessionFrom, decodedTo, unreadable, accepted, decodeSuite, decode}
 
 closed-card : encode (closedAt Card Cs7) ≡ 0x00 ∷ 0x88 ∷ 0x01 ∷ 0x01 ∷ 0x02 ∷ 0x07 ∷ zeros 132

@@ -3,7 +3,7 @@
 use accepted_command::open_command;
 use field_wanted::command_wanted;
 use fields::FieldRead;
-use fields::read_field;
+use read_field::read_field;
 use refusal::Refusal;
 use results::Checked;
 use results::CommandResult;

@@ -3,7 +3,7 @@
 use accepted_response::open_response;
 use field_wanted::response_wanted;
 use fields::FieldRead;
-use fields::read_field;
+use read_field::read_field;
 use refusal::Refusal;
 use results::Checked;
 use results::ResponseResult;

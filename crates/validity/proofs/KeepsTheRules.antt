@@ -26,7 +26,8 @@ use Rattle.session.specs.declared.Phase.the-variants.{Ready, Pending}
 use Rattle.session.specs.declared.Opening.the-variants.{Opened as Done}
 use Rattle.session.specs.declared.Session.{Session}
 use Rattle.stored_keys.proofs.StoredKeys.{fitting}
-use Rattle.validity.specs.Valid.{allZero, keysEnd, keysZero, mcvsZero, keepsPhase, valid, isOpen, countsAsOpen}
+use Rattle.validity.specs.Valid.{keepsPhase, valid, isOpen, countsAsOpen}
+use Rattle.zero_bytes.specs.ZeroBytes.{allZero, keysEnd, keysZero, mcvsZero}
 
 zeros-are-zero : (n : ℕ) → allZero (zeros n) ≡ true
 unfolding allZero

@@ -11,7 +11,8 @@ use Rattle.suite.specs.declared.Suite.the-variants.{Cs2, Cs7}
 use Rattle.session.specs.declared.Phase.{Phase}
 use Rattle.session.specs.declared.Phase.the-variants.{Ready, Pending, Closed}
 use Rattle.session.specs.declared.Session.{Session}
-use Rattle.validity.specs.Valid.{allZero, keysEnd, keysZero, mcvsZero, keepsPhase, valid}
+use Rattle.validity.specs.Valid.{keepsPhase, valid}
+use Rattle.zero_bytes.specs.ZeroBytes.{allZero, keysEnd, keysZero, mcvsZero}
 
 abbrev session : Phase → ℕ → Bytes → Bytes → Session
 session phase count command response =

@@ -1,32 +1,12 @@
 -- Document 01, "The saved session": the rules that a session value keeps. One that breaks them counts as closed.
 -- Assumes nothing.
 use mathlib.Core.Bool.{Bool, true, false, _&&_}
-use mathlib.Core.List.{[], _∷_}
 use lib.Dec.{eqb, leb}
-use lib.ListN.{drop}
-use Rattle.octets.specs.Bytes.{Bytes}
 use Rattle.octets.specs.Choice.{if_then_else_}
-use Rattle.suite.specs.Suites.{keyLength}
 use Rattle.session.specs.declared.Phase.{Phase}
 use Rattle.session.specs.declared.Phase.the-variants.{Ready, Pending, Closed}
 use Rattle.session.specs.declared.Session.{Session}
-
-unfoldable pub allZero : Bytes → Bool
-allZero [] = true
-allZero (b ∷ bs) = eqb b 0 && allZero bs
-
--- a key of the suite's length, and zeros behind it
-unfoldable pub keysEnd : Session → Bool
-keysEnd s =
-    allZero (drop (keyLength (s .suite)) (s .«sk_enc»))
-    && allZero (drop (keyLength (s .suite)) (s .«sk_mac»))
-    && allZero (drop (keyLength (s .suite)) (s .«sk_rmac»))
-
-unfoldable pub keysZero : Session → Bool
-keysZero s = allZero (s .«sk_enc») && allZero (s .«sk_mac») && allZero (s .«sk_rmac»)
-
-unfoldable pub mcvsZero : Session → Bool
-mcvsZero s = allZero (s .«command_mcv») && allZero (s .«response_mcv»)
+use Rattle.zero_bytes.specs.ZeroBytes.{allZero, keysEnd, keysZero, mcvsZero}
 
 -- ready: count 0 needs both chaining values zero
 -- pending: count 1 or more, and count 1 needs the response value zero

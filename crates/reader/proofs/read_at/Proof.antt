@@ -54,13 +54,14 @@ use Rattle.wanted.proofs.Wanted as G
 use Rattle.wanted.proofs.Wanted.Laws as G′
 use Rattle.data_object.proofs.ObjectRead as E
 use Rattle.data_object.proofs.ObjectRead.Laws as E′
-use Rattle.reader.specs.Reader.{indexAfter, readStep, opened, moved}
+use Rattle.reader.specs.Reader.{opened, moved}
+use Rattle.read_step.specs.Step.{indexAfter, readStep}
 use Rattle.reader.specs.declared.Reader.{Reader}
-use Rattle.reader.specs.declared.Step.{Step}
+use Rattle.read_step.specs.declared.Step.{Step}
 use Rattle.reader.proofs.Reader as T
 use Rattle.reader.proofs.Reader.Laws as T′
-use Rattle.reader.proofs.Step as S
-use Rattle.reader.proofs.Step.Laws as S′
+use Rattle.read_step.proofs.Step as S
+use Rattle.read_step.proofs.Step.Laws as S′
 use Rattle.reader.proofs.Reader.new as new
 use Rattle.reader.proofs.Reader.new.Symbol as new-def
 use Rattle.reader.proofs.Reader.new.Symbol.{name as #new}

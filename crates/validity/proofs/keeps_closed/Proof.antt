@@ -5,7 +5,8 @@ use Rattle.validity.proofs.keeps_closed.Statement.{statement}
 use Rattle.validity.proofs.keeps_closed.Tie as tie
 use borrow.Author.Tests.{eq-eqb, ne-eqb}
 use Rattle.octets.proofs.Tests.{outcome}
-use Rattle.validity.specs.Valid.{keysZero, keepsPhase}
+use Rattle.validity.specs.Valid.{keepsPhase}
+use Rattle.zero_bytes.specs.ZeroBytes.{keysZero}
 
 returns : tie.Need-returns
 unfolding keepsPhase

@@ -5,7 +5,8 @@ use Rattle.validity.proofs.keeps_ready.Statement.{statement}
 use Rattle.validity.proofs.keeps_ready.Tie as tie
 use borrow.Author.Tests.{eq-eqb, ne-eqb}
 use Rattle.octets.proofs.Tests.{outcome}
-use Rattle.validity.specs.Valid.{keysEnd, keepsPhase}
+use Rattle.validity.specs.Valid.{keepsPhase}
+use Rattle.zero_bytes.specs.ZeroBytes.{keysEnd}
 
 returns : tie.Need-returns
 unfolding keepsPhase

@@ -1,0 +1,29 @@
+// Fragmenting a command, for programs in C (c/pivsm.h).
+use command_chaining_values::fragment_values;
+use fragment_command::fragment_command;
+ghost use mathlib.Core.Path.{_≡_};
+ghost use lib.ListN.{length};
+ghost use Rattle.answers.specs.Answer.{buffer};
+ghost use Rattle.capi_fragment_command.specs.FragmentOn.{fragmentOf, fragmentGives};
+
+// Refusals 15, 4, 14 and 6.
+#[no_mangle]
+pub extern "C" fn pivsm_fragment_command(
+    ins: u8,
+    p1: u8,
+    p2: u8,
+    field: &[u8],
+    size: usize,
+    number: usize,
+    apdu: &mut [u8],
+    written: &mut usize,
+) -> u32
+    ensures number { λ answer. ⌜ answer ≡ fragmentGives (fragmentOf ins p1 p2 (now (field .entry)) size number (length (now (apdu .entry)))) .number ⌝ }
+    ensures written { λ _. ⌜ now (written .exit) ≡ fragmentGives (fragmentOf ins p1 p2 (now (field .entry)) size number (length (now (apdu .entry)))) .len ⌝ }
+    ensures apdu { λ _. ⌜ now (apdu .exit) ≡ buffer (λ bytes. bytes) (now (apdu .entry)) (fragmentOf ins p1 p2 (now (field .entry)) size number (length (now (apdu .entry)))) ⌝ }
+{
+    let answer = fragment_command(ins, p1, p2, field, size, number, apdu);
+    let values = fragment_values(answer);
+    *written = values.len;
+    values.number
+}

@@ -1,0 +1,9 @@
+-- pivsm_reassemble_response of c/pivsm.h. A chain is one number for a program in C, the length reassembled; 0 is the empty chain.
+-- Assumes nothing.
+use Prim.Native.Nat.{ℕ}
+use Rattle.octets.specs.Bytes.{Bytes}
+use Rattle.response_chaining.specs.Reassembly.{chain, reassembleResponse}
+use Rattle.response_chaining.specs.declared.ResponseReassembly.{ResponseReassembly}
+
+abbrev pub reassembleOn : ℕ → Bytes → ℕ → ResponseReassembly
+reassembleOn n bytes room = reassembleResponse (chain n) bytes room
