@@ -33,7 +33,8 @@ test: programs
 # Eight at a time: rt waits for the slowest of those that it starts together. A check works in some hundred megabytes, and checks that take short turns on a processor
 # push each other's out of its caches, so each asks for turns of 100 ms (sched_setattr, number 314 on x86-64; a kernel that has no such turns does as before).
 # rt's last line, with what passed and failed, is kept for the end of `test`.
-LONG_TURNS = perl -e 'syscall 314, 0, pack("LLQlLQQQ", 48, 0, 0, 0, 0, 100_000_000, 0, 0), 0 if `uname -m` eq "x86_64\n"; exec @ARGV'
+LONG_TURNS = perl -e '$$turns = pack "LLQlLQQQ", 48, 0, 0, 0, 0, 100_000_000, 0, 0; syscall 314, 0, $$turns, 0 if `uname -m` eq "x86_64\n"; exec @ARGV'
+
 gate: format
 	@rm -f build/status
 	@{ RT_JOBS=8 $(LONG_TURNS) rt ci; echo $$? >build/status; } | tee build/gate | sed -u '$$d'
