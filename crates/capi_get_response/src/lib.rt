@@ -1,6 +1,6 @@
 // GET RESPONSE, for programs in C (c/pivsm.h).
 use octets::put_bytes;
-use reassemble_response::get_response;
+use response_chain::get_response;
 ghost use mathlib.Core.Path.{_≡_};
 ghost use lib.ListN.{length};
 ghost use Rattle.answers.specs.Answer.{buffer};

@@ -1,7 +1,6 @@
 // The card fragments a response field: one fragment with its status word a call (document 01, "The wire"; ISO/IEC 7816-4).
+use fragment_response_checks::fragment_checks;
 use octets::put_bytes;
-use permission::status_permitted;
-use refusal::Refusal;
 use response_chaining::ResponseFragmentAnswer;
 use response_parts::next;
 use response_parts::put_status;
@@ -13,36 +12,6 @@ ghost use Rattle.octets.specs.Write.{Wrote};
 ghost use Rattle.answers.specs.Answer.{buffer};
 ghost use Rattle.answers.specs.Message.{status};
 ghost use Rattle.response_chaining.specs.Fragment.{fragmentStatus, next, fragmentResponse, fragmentAnswer};
-
-const MAX_RESPONSE_FIELD: usize = 16403;
-
-// The first refusal, 3, 4, 14 or 6, or the length of the fragment, which a buffer of `room` bytes holds, and the index behind its data.
-fn fragment_checks(
-    sw1: u8,
-    sw2: u8,
-    field: &[u8],
-    at: usize,
-    le: u8,
-    room: usize,
-) -> ResponseFragmentAnswer
-    ensures { λ r. ⌜ r ≡ fragmentAnswer (next (now (field .entry)) at le) (fragmentResponse (status sw1 sw2) (now (field .entry)) at le room) ⌝ }
-{
-    if !status_permitted(sw1, sw2) {
-        return ResponseFragmentAnswer::Refused(Refusal::NotPermitted);
-    }
-    if field.len() > MAX_RESPONSE_FIELD {
-        return ResponseFragmentAnswer::Refused(Refusal::TooLong);
-    }
-    if at >= field.len() {
-        return ResponseFragmentAnswer::Refused(Refusal::BrokenChain);
-    }
-    let end = next(field, at, le);
-    let needed = end - at + 2;
-    if needed > room {
-        return ResponseFragmentAnswer::Refused(Refusal::BufferTooSmall(needed));
-    }
-    ResponseFragmentAnswer::Fragment(needed, end)
-}
 
 // Of a fragment that passed its tests: data up to index `end` of the field, and its status word, from index 0 on; the index behind them.
 fn put_fragment(out: &mut [u8], sw1: u8, sw2: u8, field: &[u8], at: usize, end: usize) -> usize

@@ -1,6 +1,8 @@
 // A command field is put together again from its fragments (document 01, "The wire").
 use command_apdu::is_last;
 use command_apdu::lc;
+use command_chain::empty_chain;
+use command_chain::taken;
 use command_chaining::CommandChain;
 use command_chaining::Reassembly;
 use command_chaining::ReassemblyAnswer;
@@ -11,43 +13,8 @@ ghost use mathlib.Core.Path.{_≡_};
 ghost use Prim.Native.Nat.{_+_, _≤_};
 ghost use lib.ListN.{length};
 ghost use Rattle.octets.specs.Write.{put};
-ghost use Rattle.command_chaining.specs.Apdu.{header, headerOf, lc, dataOf, isLast};
+ghost use Rattle.command_chaining.specs.Apdu.{headerOf, lc, dataOf, isLast};
 ghost use Rattle.command_chaining.specs.Reassembly.{empty, total, taken, reassembleCommand, reassemblyBuffer};
-
-// What a caller starts with.
-pub fn empty_chain() -> CommandChain
-    ensures { λ chain. ⌜ chain ≡ empty ⌝ }
-{
-    CommandChain {
-        len: 0,
-        ins: 0,
-        p1: 0,
-        p2: 0,
-    }
-}
-
-// Of a fragment that is taken: the bytes so far, and whether it is the last.
-fn taken(ins: u8, p1: u8, p2: u8, n: usize, last: bool) -> Reassembly
-    ensures { λ r. ⌜ r ≡ taken (header ins p1 p2) n last ⌝ }
-{
-    let none = empty_chain();
-    let so_far = CommandChain {
-        len: n,
-        ins,
-        p1,
-        p2,
-    };
-    if last {
-        return Reassembly {
-            answer: ReassemblyAnswer::Whole(n, ins, p1, p2),
-            chain: none,
-        };
-    }
-    Reassembly {
-        answer: ReassemblyAnswer::More(n, 0x90, 0x00),
-        chain: so_far,
-    }
-}
 
 // The data of a fragment that passed its tests, behind what stands in the caller's buffer.
 fn take_fragment(chain: CommandChain, apdu: &[u8], out: &mut [u8]) -> Reassembly

@@ -1,11 +1,9 @@
 // The full MAC of a response (SP 800-73-4 Part 2, 4.2.5), over the field's bytes where they stand, and the eight bytes of a MAC that '8E' holds.
 use cmac::Cmac;
-use octets::put_bytes;
 use session_keys::expanded;
 use session_keys::key_size;
 use suite::Suite;
 ghost use mathlib.Core.Path.{_≡_};
-ghost use lib.ListN.{take};
 ghost use Rattle.mac_input.specs.MacInput.{responseMacInput};
 ghost use Rattle.stored_keys.specs.StoredKeys.{keyIn};
 ghost use Rattle.cmac.specs.Cmac.{cmac};
@@ -20,13 +18,4 @@ pub fn response_mac(suite: Suite, sk_rmac: [u8; 32], mcv: [u8; 16], covered: &[u
     let begun = Cmac::start().absorb(size, &w, &mcv);
     let whole = begun.absorb(size, &w, covered);
     whole.finish(size, &w)
-}
-
-// The eight bytes of '8E': the most significant ones of the full MAC.
-pub fn truncated(full: [u8; 16]) -> [u8; 8]
-    ensures { λ mac. ⌜ mac ≡ take 8 full ⌝ }
-{
-    let mut mac = [0u8; 8];
-    put_bytes(&mut mac, 0, &full[..8]);
-    mac
 }

@@ -1,8 +1,8 @@
 -- `fragment_checks` meets its contract: one test after the other.
 -- Assumes nothing.
 use borrow.Author.Needs.{needs}
-use Rattle.fragment_response.proofs.fragment_checks.Statement.{statement}
-use Rattle.fragment_response.proofs.fragment_checks.Tie as tie
+use Rattle.fragment_response_checks.proofs.fragment_checks.Statement.{statement}
+use Rattle.fragment_response_checks.proofs.fragment_checks.Tie as tie
 use mathlib.Core.Path.{sym}
 use Prim.Native.Nat.{_+_, _-_}
 use native.Mathlib.Omega.{arith}

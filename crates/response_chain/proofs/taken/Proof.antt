@@ -1,8 +1,8 @@
 -- `taken` meets its contract: more fragments follow, or not.
 -- Assumes nothing.
 use borrow.Author.Needs.{needs}
-use Rattle.reassemble_response.proofs.taken.Statement.{statement}
-use Rattle.reassemble_response.proofs.taken.Tie as tie
+use Rattle.response_chain.proofs.taken.Statement.{statement}
+use Rattle.response_chain.proofs.taken.Tie as tie
 use Rattle.response_chaining.specs.Reassembly.{taken}
 use Rattle.response_chaining.specs.declared.ResponseReassemblyAnswer.the-variants.{Whole}
 

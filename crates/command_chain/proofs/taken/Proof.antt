@@ -1,8 +1,8 @@
 -- `taken` meets its contract: the last fragment, or not.
 -- Assumes nothing.
 use borrow.Author.Needs.{needs}
-use Rattle.reassemble_command.proofs.taken.Statement.{statement}
-use Rattle.reassemble_command.proofs.taken.Tie as tie
+use Rattle.command_chain.proofs.taken.Statement.{statement}
+use Rattle.command_chain.proofs.taken.Tie as tie
 use Rattle.command_chaining.specs.Reassembly.{taken}
 use Rattle.command_chaining.specs.declared.ReassemblyAnswer.the-variants.{Whole}
 

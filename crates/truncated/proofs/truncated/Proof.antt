@@ -1,8 +1,8 @@
 -- `truncated` meets its contract: eight bytes are written over eight.
 -- Assumes nothing.
 use borrow.Author.Needs.{needs}
-use Rattle.session_mac.proofs.truncated.Statement.{statement}
-use Rattle.session_mac.proofs.truncated.Tie as tie
+use Rattle.truncated.proofs.truncated.Statement.{statement}
+use Rattle.truncated.proofs.truncated.Tie as tie
 use mathlib.Core.Path.{_≡_, sym, _∙_}
 use native.Mathlib.Omega.{arith}
 use lib.ListN.{length, length-take}

@@ -1,7 +1,7 @@
 -- `get_response` meets its contract: the APDU, byte by byte.
 -- Assumes nothing.
-use Rattle.reassemble_response.proofs.get_response.Statement.{statement}
-use Rattle.reassemble_response.proofs.get_response.Tie as tie
+use Rattle.response_chain.proofs.get_response.Statement.{statement}
+use Rattle.response_chain.proofs.get_response.Tie as tie
 use mathlib.Core.Path.{refl}
 use Rattle.response_chaining.specs.Reassembly.{getResponse}
 
