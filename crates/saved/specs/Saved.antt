@@ -6,8 +6,7 @@ use lib.Dec.{eqb, leb}
 use lib.ListN.{length, getD, take, drop}
 use Rattle.octets.specs.Bytes.{Bytes}
 use Rattle.octets.specs.Choice.{if_then_else_}
-use Rattle.octets.specs.Write.{over}
-use Rattle.refusal.specs.declared.Refusal.the-variants.{SessionClosed, BufferTooSmall, BadSession}
+use Rattle.refusal.specs.declared.Refusal.the-variants.{BadSession}
 use Rattle.suite.specs.Suites.{number, suiteOf}
 use Rattle.session.specs.Session.{noSession}
 use Rattle.session.specs.declared.Side.{Side}
@@ -19,8 +18,6 @@ use Rattle.suite.specs.declared.SuiteNumber.{SuiteNumber}
 use Rattle.suite.specs.declared.SuiteNumber.the-variants.{Known, Unknown}
 use Rattle.session.specs.declared.Session.{Session}
 use Rattle.validity.specs.Valid.{valid}
-use Rattle.saved.specs.declared.Encoding.{Encoding}
-use Rattle.saved.specs.declared.Encoding.the-variants.{Encoded, Refused as NotEncoded}
 use Rattle.saved.specs.declared.Decoding.the-variants.{Decoded as Done, Refused}
 use Rattle.saved.specs.declared.Decoded.{Decoded}
 
@@ -49,17 +46,6 @@ mcvs s = s .«command_mcv» ++ s .«response_mcv»
 
 unfoldable pub encode : Session → Bytes
 encode s = header s ++ keys s ++ mcvs s
-
--- 1, only for a session value that breaks the rules, then 6
-unfoldable pub encoding : Session → ℕ → Encoding
-encoding s room =
-    if valid s then if leb 138 room then Encoded else NotEncoded (BufferTooSmall 138)
-    else NotEncoded SessionClosed
-
--- what the caller's buffer, which held xs, holds afterwards
-unfoldable pub encodedIn : Bytes → Encoding → Session → Bytes
-encodedIn xs Encoded s = over xs (encode s)
-encodedIn xs (NotEncoded refusal) s = xs
 
 -- ---- reading
 

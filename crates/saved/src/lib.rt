@@ -4,20 +4,14 @@ use refusal::Refusal;
 use session::Phase;
 use session::Session;
 use session::Side;
-use validity::valid;
 ghost use mathlib.Core.Path.{_≡_};
 ghost use Prim.Native.Nat.{_+_, _≤_};
 ghost use lib.ListN.{length};
 ghost use Rattle.octets.specs.Write.{Wrote};
-ghost use Rattle.saved.specs.Saved.{sideNumber, phaseNumber, header, keys, mcvs, encode, encoding, encodedIn};
+ghost use Rattle.saved.specs.Saved.{sideNumber, phaseNumber, header, keys, mcvs, encode};
 
 // The length of a saved session.
 pub const SIZE: usize = 138;
-
-pub enum Encoding {
-    Encoded,
-    Refused(Refusal),
-}
 
 pub enum Decoding {
     Decoded,
@@ -108,19 +102,4 @@ pub fn put_session(session: Session, out: &mut [u8]) -> usize
     let k = put_header(session, out);
     let m = put_keys(session, out, k);
     put_mcvs(session, out, m)
-}
-
-// Saves a session: refusals 1 and 6.
-pub fn encode(session: Session, out: &mut [u8]) -> Encoding
-    ensures answer { λ answer. ⌜ answer ≡ encoding session (length (now (out .entry))) ⌝ }
-    ensures output { λ answer. ⌜ now (out .exit) ≡ encodedIn (now (out .entry)) answer session ⌝ }
-{
-    if valid(session) {
-        if SIZE <= out.len() {
-            put_session(session, out);
-            return Encoding::Encoded;
-        }
-        return Encoding::Refused(Refusal::BufferTooSmall(SIZE));
-    }
-    Encoding::Refused(Refusal::SessionClosed)
 }

@@ -1,15 +1,15 @@
 -- `encode` meets its contract: the two refusals in their order, then all the bytes.
 -- Assumes nothing.
 use borrow.Author.Needs.{needs}
-use Rattle.saved.proofs.encode.Statement.{statement}
-use Rattle.saved.proofs.encode.Tie as tie
+use Rattle.saving.proofs.encode.Statement.{statement}
+use Rattle.saving.proofs.encode.Tie as tie
 use borrow.Author.Tests.{le-leb, lt-leb}
 use mathlib.Core.Path.{refl}
 use lib.ListN.{length}
 use Rattle.octets.proofs.Tests.{outcome}
 use Rattle.octets.proofs.Writing.{wrote-all}
 use Rattle.validity.specs.Valid.{valid}
-use Rattle.saved.specs.Saved.{encoding, encodedIn}
+use Rattle.saving.specs.Saving.{encoding, encodedIn}
 
 returns : tie.Need-returns
 unfolding encoding encodedIn
