@@ -1,7 +1,7 @@
 // Closing a session, for programs in C (c/pivsm.h), on its bytes.
+use held_session::replace_session;
+use held_session::session_in;
 use saved::Decoding;
-use session_bytes::replace_session;
-use session_bytes::session_in;
 ghost use mathlib.Core.Path.{_≡_};
 ghost use Rattle.octets.specs.Bytes.{IsBytes};
 ghost use Rattle.capi_close.specs.CloseOn.{closeOn, closeValues};

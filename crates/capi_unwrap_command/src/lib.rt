@@ -1,7 +1,7 @@
 // The card unwraps a command, for programs in C (c/pivsm.h), on the bytes of a session.
+use held_session::replace_session;
+use held_session::session_in;
 use saved::Decoding;
-use session_bytes::replace_session;
-use session_bytes::session_in;
 use unwrap_command::unwrap_command;
 use values::command_values;
 use values::refusal_values;

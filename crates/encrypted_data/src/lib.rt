@@ -1,6 +1,6 @@
 // The object of encrypted data, '87' (SP 800-73-4 Part 2, 4.2). Room is checked by the caller, as for `objects`.
+use byte_writes::put_byte;
 use length_field::put_length;
-use octets::put_byte;
 use octets::put_bytes;
 ghost use mathlib.Core.List.{[], _∷_, _++_};
 ghost use Prim.Native.Nat.{_+_, _<_, _≤_};

@@ -1,3 +1,1 @@
-pub mod StartChanged
-pub mod Encrypted
 pub mod Room

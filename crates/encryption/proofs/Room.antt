@@ -16,7 +16,7 @@ use Rattle.objects.proofs.FieldLengths.{length-encryptedData, length-leObject, 
 use Rattle.stored_keys.specs.StoredKeys.{keyIn}
 use Rattle.suite.specs.declared.Suite.{Suite}
 use Rattle.ciphers.specs.Aes.{encrypt}
-use Rattle.encryption.proofs.Encrypted.{length-encrypt}
+use Rattle.encrypted_blocks.proofs.Encrypted.{length-encrypt}
 
 -- less than m blocks of data take at most m
 pub ciphertext-fits : (p m : ℕ) → p < 16 * m → ciphertextLength p ≤ 16 * m

@@ -1,42 +1,15 @@
 // The host fragments a command field: the APDU of one fragment a call (document 01, "The wire"; SP 800-73-4 Part 2, 4.2.4).
 use command_chaining::FragmentAnswer;
-use command_parts::apdu_length;
-use command_parts::fragment_count;
 use command_parts::fragment_part;
 use fragment_apdu::put_apdu;
-use refusal::Refusal;
+use fragment_command_checks::fragment_checks;
 ghost use mathlib.Core.Path.{_≡_};
 ghost use Prim.Native.Nat.{_<_, _≤_};
 ghost use lib.ListN.{length};
 ghost use Rattle.octets.specs.Write.{Wrote};
 ghost use Rattle.answers.specs.Answer.{buffer};
-ghost use Rattle.command_chaining.specs.Apdu.{Header, header};
+ghost use Rattle.command_chaining.specs.Apdu.{header};
 ghost use Rattle.command_chaining.specs.Fragment.{fragmentCount, fragment, fragmentCommand, fragmentAnswer};
-
-// The most data of a fragment.
-const MAX_FRAGMENT: usize = 255;
-
-const MAX_COMMAND_FIELD: usize = 2066;
-
-// The first refusal, 15, 4, 14 or 6, or the length of the APDU, which a buffer of `room` bytes holds.
-fn fragment_checks(field: &[u8], size: usize, number: usize, room: usize) -> FragmentAnswer
-    ensures { λ r. ⌜ ((h : Header) → r ≡ fragmentAnswer (fragmentCommand h (now (field .entry)) size number room)) ⌝ }
-{
-    if size > MAX_FRAGMENT {
-        return FragmentAnswer::Refused(Refusal::FragmentTooLong);
-    }
-    if field.len() > MAX_COMMAND_FIELD {
-        return FragmentAnswer::Refused(Refusal::TooLong);
-    }
-    if number >= fragment_count(field.len(), size) {
-        return FragmentAnswer::Refused(Refusal::BrokenChain);
-    }
-    let needed = apdu_length(field, size, number);
-    if needed > room {
-        return FragmentAnswer::Refused(Refusal::BufferTooSmall(needed));
-    }
-    FragmentAnswer::Fragment(needed)
-}
 
 // Of a fragment that passed its tests: the APDU, from index 0 on; the index behind it.
 fn put_fragment(

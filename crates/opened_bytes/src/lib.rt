@@ -1,9 +1,9 @@
 // The bytes of a session that was opened, for programs in C (c/pivsm.h).
+use held_session::replace_session;
 use refusal::Refusal;
 use saved::SIZE;
 use session::Opened;
 use session::Opening;
-use session_bytes::replace_session;
 use values::refusal_values;
 ghost use mathlib.Core.Path.{_≡_};
 ghost use lib.ListN.{length};

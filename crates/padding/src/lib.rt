@@ -1,6 +1,6 @@
 // The padding of command and response data (SP 800-73-4 Part 2, 4.2.2).
-use octets::put_byte;
-use octets::put_zeros;
+use byte_writes::put_byte;
+use byte_writes::put_zeros;
 ghost use mathlib.Core.Path.{_≡_};
 ghost use Prim.Native.Nat.{_+_, _<_, _≤_};
 ghost use lib.ListN.{length};

@@ -9,7 +9,7 @@ use lib.ListN.{length}
 use Rattle.octets.proofs.Writing.{wrote-none}
 use Rattle.stored_keys.specs.StoredKeys.{keyIn}
 use Rattle.field_lengths.specs.Lengths.{ciphertextLength}
-use Rattle.encryption.proofs.Encrypted.{encrypt-none}
+use Rattle.encrypted_blocks.proofs.Encrypted.{encrypt-none}
 
 returns : tie.Need-returns
 returns c =

@@ -4,9 +4,9 @@ use lib.ListN.{length}
 use lib.Seq.{length-take-le}
 use borrow.Author.Needs.{needs}
 use borrow.Author.Tests.{le-leb, lt-leb}
 use Rattle.session_bytes.specs.SessionBytes.{sessionIn}
-use Rattle.session_bytes.proofs.session_in.Statement.{statement}
-use Rattle.session_bytes.proofs.session_in.Tie as tie
+use Rattle.held_session.proofs.session_in.Statement.{statement}
+use Rattle.held_session.proofs.session_in.Tie as tie
 
 slice-aggregate-decode : tie.Need-slice-aggregate-decode
 slice-aggregate-decode c = sym (length-take-le _ _ (c .before .if1 .taken))

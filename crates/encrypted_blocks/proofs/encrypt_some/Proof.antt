@@ -1,15 +1,15 @@
 -- `encrypt_some` meets its contract: the padded data is encrypted where it stands.
 -- Assumes nothing.
 use borrow.Author.Needs.{needs}
-use Rattle.encryption.proofs.encrypt_some.Statement.{statement}
-use Rattle.encryption.proofs.encrypt_some.Tie as tie
+use Rattle.encrypted_blocks.proofs.encrypt_some.Statement.{statement}
+use Rattle.encrypted_blocks.proofs.encrypt_some.Tie as tie
 use mathlib.Core.Path.{_≡_, _∙_}
 use native.Mathlib.Omega.{arith}
 use lib.ListN.{length}
 use Rattle.octets.proofs.Writing.{wrote-length}
 use Rattle.padding.specs.Padding.{paddedLength}
 use Rattle.padding.proofs.Lengths.{length-pad}
-use Rattle.encryption.proofs.Encrypted.{encrypted-in}
+use Rattle.encrypted_blocks.proofs.Encrypted.{encrypted-in}
 
 encrypt-start-requires : tie.Need-encrypt-start-requires
 unfolding paddedLength

@@ -1,14 +1,14 @@
 -- `encrypt_start` meets its contract: the first n bytes are whole blocks, so all of them are encrypted.
 -- Assumes nothing.
 use borrow.Author.Needs.{needs}
-use Rattle.encryption.proofs.encrypt_start.Statement.{statement}
-use Rattle.encryption.proofs.encrypt_start.Tie as tie
+use Rattle.encrypted_blocks.proofs.encrypt_start.Statement.{statement}
+use Rattle.encrypted_blocks.proofs.encrypt_start.Tie as tie
 use native.Mathlib.Omega.{arith}
 use mathlib.Core.Path.{sym}
 use lib.Seq.{length-take-le}
 use Rattle.aes.specs.Aes.{ciph}
 use Rattle.cbc.specs.Cbc.{cbcEncrypt}
-use Rattle.encryption.proofs.StartChanged.{start-changed}
+use Rattle.encrypted_blocks.proofs.StartChanged.{start-changed}
 
 slice-aggregate-encrypt : tie.Need-slice-aggregate-encrypt
 slice-aggregate-encrypt c = sym (length-take-le (c .before .before .args .n) (c .before .before .args .text .now) (c .before .before .pre .1))

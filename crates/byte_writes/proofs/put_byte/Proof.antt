@@ -2,9 +2,9 @@
 -- Assumes nothing.
 use borrow.Author.Needs.{needs}
 use denote.Ref.{now}
 use Rattle.octets.proofs.Writing.{set-put}
-use Rattle.octets.proofs.put_byte.Statement.{statement}
-use Rattle.octets.proofs.put_byte.Tie as tie
+use Rattle.byte_writes.proofs.put_byte.Statement.{statement}
+use Rattle.byte_writes.proofs.put_byte.Tie as tie
 
 returns : tie.Need-returns
 returns c = record { end = search needs; bytes = set-put (now (c .args .out)) (c .args .at) (c .args .b) (c .pre) }

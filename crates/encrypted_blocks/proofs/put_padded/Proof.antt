@@ -1,8 +1,8 @@
 -- `put_padded` meets its contract: two writes, one after the other.
 -- Assumes nothing.
 use borrow.Author.Needs.{needs}
-use Rattle.encryption.proofs.put_padded.Statement.{statement}
-use Rattle.encryption.proofs.put_padded.Tie as tie
+use Rattle.encrypted_blocks.proofs.put_padded.Statement.{statement}
+use Rattle.encrypted_blocks.proofs.put_padded.Tie as tie
 use native.Mathlib.Omega.{arith}
 use Rattle.octets.proofs.Writing.{wrote-then, wrote-length}
 use Rattle.padding.specs.Padding.{pad, paddedLength}

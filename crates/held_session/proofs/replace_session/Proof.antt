@@ -3,8 +3,8 @@ use native.Mathlib.Omega.{arith}
 use borrow.Author.Needs.{needs}
 use Rattle.octets.proofs.Writing.{wrote-all}
 use Rattle.saved.proofs.SavedParts.{length-encode}
-use Rattle.session_bytes.proofs.replace_session.Statement.{statement}
-use Rattle.session_bytes.proofs.replace_session.Tie as tie
+use Rattle.held_session.proofs.replace_session.Statement.{statement}
+use Rattle.held_session.proofs.replace_session.Tie as tie
 
 returns : tie.Need-returns
 returns c =

@@ -1,8 +1,8 @@
 -- `fragment_checks` meets its contract: one test after the other.
 -- Assumes nothing.
 use borrow.Author.Needs.{needs}
-use Rattle.fragment_command.proofs.fragment_checks.Statement.{statement}
-use Rattle.fragment_command.proofs.fragment_checks.Tie as tie
+use Rattle.fragment_command_checks.proofs.fragment_checks.Statement.{statement}
+use Rattle.fragment_command_checks.proofs.fragment_checks.Tie as tie
 use mathlib.Core.Path.{sym, ap}
 use native.Mathlib.Omega.{arith}
 use borrow.Author.Tests.{lt-leb, le-leb, lt-ltb, le-ltb}

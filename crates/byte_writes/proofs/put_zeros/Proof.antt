@@ -5,11 +5,11 @@ use mathlib.Core.Path.{_≡_, sym, ap₂, _∙_}
 use Prim.Native.Nat.{ℕ, _+_, _-_, _≤_}
 use native.Mathlib.Omega.{arith}
 use lib.ListN.{length, take, set, length-set, getD-replicate, length-replicate}
 use Rattle.octets.specs.Bytes.{Bytes, zeros}
 use Rattle.octets.specs.Write.{put}
 use Rattle.octets.proofs.Writing.{put-none, put-more, put-all}
-use Rattle.octets.proofs.put_zeros.Statement.{statement}
-use Rattle.octets.proofs.put_zeros.Tie as tie
+use Rattle.byte_writes.proofs.put_zeros.Statement.{statement}
+use Rattle.byte_writes.proofs.put_zeros.Tie as tie
 
 abbrev Inv-loop : tie.InvT-loop
 Inv-loop out₀ at n i₀ out i = (out ≡ put out₀ at (take i (zeros n))) × (i ≤ n) × (length out ≡ length out₀)

@@ -1,0 +1,2 @@
+pub mod StartChanged
+pub mod Encrypted
