@@ -123,18 +123,13 @@ build/checked: $(CODE) | build
 	@rt check $(CALLS) $(PRIMITIVES)
 	@touch $@
 
-# A crate's archive is one object, with its exported calls alone. Two rt in one tree are in each other's way, so each object is made in a tree of its own.
-build/%.o: build/checked
-	@rm -rf target/archive/$* && mkdir -p target/archive/$*/target
-	@cp -r crates crates.txt target/archive/$* && cp -rl target/rlib target/archive/$*/target && cp -r target/stamp target/log target/archive/$*/target
-	@cd target/archive/$* && { rt staticlib $* >log 2>&1 || { cat log; exit 1; }; }
-	@cd build && ar x ../target/archive/$*/target/staticlib/lib$*.a && rm -rf ../target/archive/$*
+build/libpivsm.a: build/checked | packages
+	@c/objects.sh $(CALLS)
+	@ar rcs $@ $(CALLS:%=build/%.o)
 
-build/libpivsm.a: $(CALLS:%=build/%.o)
-	@ar rcs $@ $^
-
-build/libprimitives.a: $(PRIMITIVES:%=build/%.o)
-	@ar rcs $@ $^
+build/libprimitives.a: build/checked | build/libpivsm.a
+	@c/objects.sh $(PRIMITIVES)
+	@ar rcs $@ $(PRIMITIVES:%=build/%.o)
 
 # Each installs what is missing.
 packages:
