@@ -125,10 +125,12 @@ build/checked: $(CODE) | build
 
 build/libpivsm.a: build/checked | packages
 	@c/objects.sh $(CALLS)
+	@rm -f $@
 	@ar rcs $@ $(CALLS:%=build/%.o)
 
 build/libprimitives.a: build/checked | build/libpivsm.a
 	@c/objects.sh $(PRIMITIVES)
+	@rm -f $@
 	@ar rcs $@ $(PRIMITIVES:%=build/%.o)
 
 # Each installs what is missing.

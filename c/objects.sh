@@ -9,7 +9,7 @@ made() { # TREE CRATE...
     shift
     for crate; do
         (cd "$tree" && rt staticlib "$crate" >target/log/archive 2>&1) || { cat "$tree/target/log/archive"; return 1; }
-        ar x --output build "$tree/target/staticlib/lib$crate.a"
+        ar x --output build "$tree/target/staticlib/lib$crate.a" || return 1
     done
 }
 
@@ -18,7 +18,7 @@ mkdir -p "$beside/target"
 cp -r crates crates.txt "$beside"
 cp -rl target/rlib "$beside/target"
 cp -r target/stamp target/log "$beside/target"
-here='' there=''
+here='' there='' failed=''
 while [ $# -gt 0 ]; do
     here="$here $1" there="$there $2"
     shift
@@ -27,6 +27,7 @@ done
 # shellcheck disable=SC2086
 made . $here & half=$!
 # shellcheck disable=SC2086
-made "$beside" $there && other=0 || other=1
-wait "$half" && [ "$other" = 0 ]
+made "$beside" $there || failed=yes
+wait "$half" || failed=yes
 rm -rf "$beside"
+[ -z "$failed" ]

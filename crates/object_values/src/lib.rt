@@ -1,4 +1,4 @@
-// The length and the value that an object of a field must have (document 01, "Objects, encryption and MAC").
+// The value that an object of a field must have (document 01, "Objects, encryption and MAC").
 use wanted::Second;
 use wanted::Wanted;
 ghost use mathlib.Core.Path.{_≡_};

@@ -1,4 +1,4 @@
-// Which INS and statuses are permitted, what Le and data each INS takes, and what fields are read for (document 01, "Objects, encryption and MAC").
+// Which INS and statuses are permitted, and what Le and data each INS takes (document 01, "Objects, encryption and MAC").
 use wanted::Need;
 ghost use mathlib.Core.Path.{_≡_};
 ghost use Rattle.answers.specs.Message.{status};

@@ -1,4 +1,4 @@
-// A response field is put together again from its fragments, and the GET RESPONSE that asks for the next (document 01, "The wire").
+// A response field is put together again from its fragments (document 01, "The wire").
 use octets::put_bytes;
 use response_chain::empty_chain;
 use response_chain::taken;

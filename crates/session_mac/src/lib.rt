@@ -1,4 +1,4 @@
-// The full MAC of a response (SP 800-73-4 Part 2, 4.2.5), over the field's bytes where they stand, and the eight bytes of a MAC that '8E' holds.
+// The full MAC of a response (SP 800-73-4 Part 2, 4.2.5), over the field's bytes where they stand.
 use cmac::Cmac;
 use session_keys::expanded;
 use session_keys::key_size;

@@ -5,7 +5,8 @@ use mathlib.Core.Bool.{true, false}
 use mathlib.Core.List.{_∷_, _++_}
 use Prim.Native.Nat.{ℕ}
 use Rattle.octets.specs.Bytes.{Bytes, zeros}
-use Rattle.session.specs.declared.Side.the-variants.{Host}
+use Rattle.session.specs.declared.Side.{Side}
+use Rattle.session.specs.declared.Side.the-variants.{Host, Card}
 use Rattle.suite.specs.declared.Suite.{Suite}
 use Rattle.suite.specs.declared.Suite.the-variants.{Cs2, Cs7}
 use Rattle.session.specs.declared.Phase.{Phase}
@@ -14,10 +15,10 @@ use Rattle.session.specs.declared.Session.{Session}
 use Rattle.validity.specs.Valid.{keepsPhase, valid}
 use Rattle.zero_bytes.specs.ZeroBytes.{allZero, keysEnd, keysZero, mcvsZero}
 
-abbrev session : Phase → ℕ → Bytes → Bytes → Session
-session phase count command response =
+abbrev sessionOf : Side → Phase → ℕ → Bytes → Bytes → Session
+sessionOf side phase count command response =
     record {
-      side = Host;
+      side = side;
       phase = phase;
       suite = Cs2;
       count = count;
@@ -28,20 +29,27 @@ session phase count command response =
       «response_mcv» = response;
     }
 
--- a ready session whose SK_RMAC has one byte that is not zero, at index 16
-abbrev longKey : Suite → Session
-longKey suite =
+abbrev session : Phase → ℕ → Bytes → Bytes → Session
+session = sessionOf Host
+
+-- keys as given, and nothing counted or chained
+abbrev keyed : Suite → Phase → Bytes → Bytes → Bytes → Session
+keyed suite phase enc mac rmac =
     record {
       side = Host;
-      phase = Ready;
+      phase = phase;
       suite = suite;
       count = 0;
-      «sk_enc» = zeros 32;
-      «sk_mac» = zeros 32;
-      «sk_rmac» = zeros 16 ++ 1 ∷ zeros 15;
+      «sk_enc» = enc;
+      «sk_mac» = mac;
+      «sk_rmac» = rmac;
       «command_mcv» = zeros 16;
       «response_mcv» = zeros 16;
     }
+
+-- one byte that is not zero, at index 16
+long : Bytes
+long = zeros 16 ++ 1 ∷ zeros 15
 
 some : Bytes
 some = 1 ∷ zeros 15
@@ -91,10 +99,35 @@ closed-with-a-chaining-value : valid (session Closed 0 (zeros 16) some) ≡ fals
 unfolding valid keepsPhase keysZero mcvsZero allZero some
 closed-with-a-chaining-value = refl
 
-long-key-of-cs2 : valid (longKey Cs2) ≡ false
-unfolding valid keepsPhase keysEnd allZero
-long-key-of-cs2 = refl
+-- the rules are the card's too
+response-value-at-1-of-a-card : valid (sessionOf Card Pending 1 some some) ≡ false
+unfolding valid keepsPhase keysEnd allZero some
+response-value-at-1-of-a-card = refl
 
-long-key-of-cs7 : valid (longKey Cs7) ≡ true
-unfolding valid keepsPhase keysEnd mcvsZero allZero
-long-key-of-cs7 = refl
+long-sk-enc-of-cs2 : valid (keyed Cs2 Ready long (zeros 32) (zeros 32)) ≡ false
+unfolding valid keepsPhase keysEnd allZero long
+long-sk-enc-of-cs2 = refl
+
+long-sk-mac-of-cs2 : valid (keyed Cs2 Ready (zeros 32) long (zeros 32)) ≡ false
+unfolding valid keepsPhase keysEnd allZero long
+long-sk-mac-of-cs2 = refl
+
+long-sk-rmac-of-cs2 : valid (keyed Cs2 Ready (zeros 32) (zeros 32) long) ≡ false
+unfolding valid keepsPhase keysEnd allZero long
+long-sk-rmac-of-cs2 = refl
+
+long-keys-of-cs7 : valid (keyed Cs7 Ready long long long) ≡ true
+unfolding valid keepsPhase keysEnd mcvsZero allZero long
+long-keys-of-cs7 = refl
+
+closed-with-sk-enc : valid (keyed Cs7 Closed long (zeros 32) (zeros 32)) ≡ false
+unfolding valid keepsPhase keysZero allZero long
+closed-with-sk-enc = refl
+
+closed-with-sk-mac : valid (keyed Cs7 Closed (zeros 32) long (zeros 32)) ≡ false
+unfolding valid keepsPhase keysZero allZero long
+closed-with-sk-mac = refl
+
+closed-with-sk-rmac : valid (keyed Cs7 Closed (zeros 32) (zeros 32) long) ≡ false
+unfolding valid keepsPhase keysZero allZero long
+closed-with-sk-rmac = refl

@@ -1,4 +1,4 @@
-// What a secure messaging field should hold, and which tag may stand where (document 01, "Objects, encryption and MAC").
+// What a secure messaging field should hold, and the tag and the need of its second object (document 01, "Objects, encryption and MAC").
 ghost use mathlib.Core.Path.{_≡_};
 ghost use Rattle.wanted.specs.Wanted.{tagOf, needOf};
 

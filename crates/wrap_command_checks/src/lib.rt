@@ -13,7 +13,7 @@ ghost use Rattle.results.specs.Results.{checked};
 ghost use Rattle.answers.specs.Message.{header};
 ghost use Rattle.protocol.specs.Command.{wrapCommandChecks};
 
-// The most data of a command, and the longest field that is read.
+// The most data of a command.
 const MAX_COMMAND_DATA: usize = 2047;
 
 // Of a wrap: a command with n bytes of data, and a buffer of that size.

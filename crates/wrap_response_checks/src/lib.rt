@@ -13,7 +13,7 @@ ghost use Rattle.results.specs.Results.{checked};
 ghost use Rattle.answers.specs.Message.{status};
 ghost use Rattle.protocol.specs.Response.{wrapResponseChecks};
 
-// The most data of a response, and the longest field that is read.
+// The most data of a response.
 const MAX_RESPONSE_DATA: usize = 16383;
 
 // Of a wrap: a response with n bytes of data, and a buffer of that size.
