@@ -1,6 +1,6 @@
 #!/bin/sh
-# objects.sh CRATE...: build/CRATE.o of each crate that is proved, with its exported calls alone.
-# rt works on one processor, and two rt in one tree are in each other's way: every second crate is made in a tree beside.
+# objects.sh CRATE...: build/CRATE.o of each crate, with its exported calls alone, once it is proved. rt knows what is already proved, as after rt ci.
+# rt makes an object on one processor, and two rt in one tree are in each other's way: every second crate is made in a tree beside.
 set -e
 beside=target/beside
 
@@ -13,6 +13,7 @@ made() { # TREE CRATE...
     done
 }
 
+rt check "$@"
 rm -rf "$beside"
 mkdir -p "$beside/target"
 cp -r crates crates.txt "$beside"
