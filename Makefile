@@ -43,7 +43,7 @@ gate: format
 # tables.rt stands 16 to a row, as in the standard; the formatter would put each entry on its own line.
 format: build
 	@rt fmt --check >build/format 2>&1 || test -s build/format
-	@! grep -v '/crates/sbox/src/tables.rt is not in the layout$$' build/format
+	@! grep -v '/crates/aes_sbox/src/tables.rt is not in the layout$$' build/format
 
 demo:
 	@$(MAKE) -s -j2 build/example

@@ -2,10 +2,10 @@
 use Prim.Native.Nat.{ℕ}
 use Rattle.octets.specs.Bytes.{Bytes}
 use Rattle.session.specs.Session.{closed}
-use Rattle.answers.specs.Answer.{Answer, refused, gave}
-use Rattle.values.specs.Values.{given, refusalValues}
-use Rattle.values.specs.declared.Values.{Values}
-use Rattle.session_bytes.specs.SessionBytes.{Served, onSession}
+use Rattle.message_answer.specs.Answer.{Answer, refused, gave}
+use Rattle.capi_values.specs.Values.{given, refusalValues}
+use Rattle.capi_values.specs.declared.Values.{Values}
+use Rattle.capi_session.specs.SessionBytes.{Served, onSession}
 
 -- closing always succeeds, where there is a session
 abbrev pub closeOn : Bytes → ℕ → Served (Unit {0})

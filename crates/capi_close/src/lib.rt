@@ -1,7 +1,7 @@
 // Closing a session, for programs in C (c/pivsm.h), on its bytes.
-use held_session::replace_session;
-use held_session::session_in;
-use saved::Decoding;
+use capi_session_held::replace_session;
+use capi_session_held::session_in;
+use session_bytes::Decoding;
 ghost use mathlib.Core.Path.{_≡_};
 ghost use Rattle.octets.specs.Bytes.{IsBytes};
 ghost use Rattle.capi_close.specs.CloseOn.{closeOn, closeValues};

@@ -1,11 +1,11 @@
 -- pivsm_fragment_command of c/pivsm.h. Assumes nothing.
 use Prim.Native.Nat.{ℕ}
 use Rattle.octets.specs.Bytes.{Bytes}
-use Rattle.answers.specs.Answer.{Answer}
-use Rattle.command_chaining.specs.Apdu.{header}
-use Rattle.command_chaining.specs.Fragment.{fragmentCommand, fragmentAnswer}
-use Rattle.chaining_values.specs.ChainingValues.{fragmentValues}
-use Rattle.values.specs.declared.Values.{Values}
+use Rattle.message_answer.specs.Answer.{Answer}
+use Rattle.chain_command.specs.Apdu.{header}
+use Rattle.chain_command.specs.Fragment.{fragmentCommand, fragmentAnswer}
+use Rattle.capi_values_chaining.specs.ChainingValues.{fragmentValues}
+use Rattle.capi_values.specs.declared.Values.{Values}
 
 abbrev pub fragmentOf : ℕ → ℕ → ℕ → Bytes → ℕ → ℕ → ℕ → Answer Bytes
 fragmentOf ins p1 p2 field size number room = fragmentCommand (header ins p1 p2) field size number room

@@ -1,9 +1,9 @@
 // Fragmenting a command, for programs in C (c/pivsm.h).
-use command_chaining_values::fragment_values;
-use fragment_command::fragment_command;
+use capi_values_command::fragment_values;
+use chain_fragment_command::fragment_command;
 ghost use mathlib.Core.Path.{_≡_};
 ghost use lib.ListN.{length};
-ghost use Rattle.answers.specs.Answer.{buffer};
+ghost use Rattle.message_answer.specs.Answer.{buffer};
 ghost use Rattle.capi_fragment_command.specs.FragmentOn.{fragmentOf, fragmentGives};
 
 // Refusals 15, 4, 14 and 6.

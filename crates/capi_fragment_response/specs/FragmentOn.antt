@@ -1,11 +1,11 @@
 -- pivsm_fragment_response of c/pivsm.h. Assumes nothing.
 use Prim.Native.Nat.{ℕ, _/_, _%_}
 use Rattle.octets.specs.Bytes.{Bytes}
-use Rattle.answers.specs.Message.{status}
-use Rattle.answers.specs.Answer.{Answer}
-use Rattle.response_chaining.specs.Fragment.{next, fragmentResponse, fragmentAnswer}
-use Rattle.chaining_values.specs.ChainingValues.{responseFragmentValues}
-use Rattle.values.specs.declared.Values.{Values}
+use Rattle.message_answer.specs.Message.{status}
+use Rattle.message_answer.specs.Answer.{Answer}
+use Rattle.chain_response.specs.Fragment.{next, fragmentResponse, fragmentAnswer}
+use Rattle.capi_values_chaining.specs.ChainingValues.{responseFragmentValues}
+use Rattle.capi_values.specs.declared.Values.{Values}
 
 -- sw: the status word, SW1 * 256 + SW2
 abbrev pub fragmentOf : ℕ → Bytes → ℕ → ℕ → ℕ → Answer Bytes

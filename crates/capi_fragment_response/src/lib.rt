@@ -1,9 +1,9 @@
 // Fragmenting a response, for programs in C (c/pivsm.h).
-use fragment_response::fragment_response;
-use response_chaining_values::response_fragment_values;
+use capi_values_response::response_fragment_values;
+use chain_fragment_response::fragment_response;
 ghost use mathlib.Core.Path.{_≡_};
 ghost use lib.ListN.{length};
-ghost use Rattle.answers.specs.Answer.{buffer};
+ghost use Rattle.message_answer.specs.Answer.{buffer};
 ghost use Rattle.capi_fragment_response.specs.FragmentOn.{fragmentOf, fragmentGives};
 
 // Refusals 3, 4, 14 and 6.

@@ -3,11 +3,11 @@ use Prim.Native.Nat.{ℕ}
 use lib.Dec.{leb}
 use Rattle.octets.specs.Bytes.{Bytes}
 use Rattle.refusal.specs.declared.Refusal.the-variants.{BufferTooSmall}
-use Rattle.answers.specs.Answer.{Answer, gave, require_else_⨾_}
-use Rattle.results.specs.Results.{wrapAnswer}
-use Rattle.response_chaining.specs.Reassembly.{getResponse}
-use Rattle.values.specs.Values.{wrapValues}
-use Rattle.values.specs.declared.Values.{Values}
+use Rattle.message_answer.specs.Answer.{Answer, gave, require_else_⨾_}
+use Rattle.message_result.specs.Results.{wrapAnswer}
+use Rattle.chain_response.specs.Reassembly.{getResponse}
+use Rattle.capi_values.specs.Values.{wrapValues}
+use Rattle.capi_values.specs.declared.Values.{Values}
 
 unfoldable pub getResponseOf : ℕ → ℕ → Answer Bytes
 getResponseOf le room = require leb 5 room else BufferTooSmall 5 ⨾ gave (getResponse le)

@@ -1,9 +1,9 @@
 // GET RESPONSE, for programs in C (c/pivsm.h).
+use chain_reassemble_response_chain::get_response;
 use octets::put_bytes;
-use response_chain::get_response;
 ghost use mathlib.Core.Path.{_≡_};
 ghost use lib.ListN.{length};
-ghost use Rattle.answers.specs.Answer.{buffer};
+ghost use Rattle.message_answer.specs.Answer.{buffer};
 ghost use Rattle.capi_get_response.specs.GetResponse.{getResponseOf, getResponseGives};
 
 // Refusal 6.

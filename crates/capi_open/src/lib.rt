@@ -1,12 +1,12 @@
 // Opening a session, for programs in C (c/pivsm.h).
-use opened_bytes::put_opened;
+use capi_open_bytes::put_opened;
 use session::Session;
 ghost use mathlib.Core.Path.{_≡_};
 ghost use lib.ListN.{length};
-ghost use Rattle.stored_keys.specs.StoredKeys.{KeysOfBytes, keys};
+ghost use Rattle.session_stored_keys.specs.StoredKeys.{KeysOfBytes, keys};
 ghost use Rattle.session.specs.declared.Side.the-variants.{Host, Card};
-ghost use Rattle.answers.specs.Answer.{buffer};
-ghost use Rattle.opened_bytes.specs.OpenOn.{openOn, openGives};
+ghost use Rattle.message_answer.specs.Answer.{buffer};
+ghost use Rattle.capi_open_bytes.specs.OpenOn.{openOn, openGives};
 
 // Refusals 11, 12 and 6. `bytes` is what the types say of the arguments; the demands use it.
 #[no_mangle]

@@ -1,9 +1,9 @@
 -- pivsm_reassemble_command of c/pivsm.h. Assumes nothing.
 use Prim.Native.Nat.{ℕ}
 use Rattle.octets.specs.Bytes.{Bytes}
-use Rattle.command_chaining.specs.Reassembly.{reassembleCommand}
-use Rattle.command_chaining.specs.declared.Reassembly.{Reassembly}
-use Rattle.chain_numbers.specs.ChainNumbers.{chainOf}
+use Rattle.chain_command.specs.Reassembly.{reassembleCommand}
+use Rattle.chain_command.specs.declared.Reassembly.{Reassembly}
+use Rattle.capi_chain_numbers.specs.ChainNumbers.{chainOf}
 
 abbrev pub reassembleOn : ℕ → Bytes → ℕ → Reassembly
 reassembleOn n apdu room = reassembleCommand (chainOf n) apdu room

@@ -1,13 +1,13 @@
 // Reassembling a command, for programs in C (c/pivsm.h).
-use chain_numbers::chain_number;
-use chain_numbers::chain_of;
-use command_chaining_values::reassembly_values;
-use reassemble_command::reassemble_command;
+use capi_chain_numbers::chain_number;
+use capi_chain_numbers::chain_of;
+use capi_values_command::reassembly_values;
+use chain_reassemble_command::reassemble_command;
 ghost use mathlib.Core.Path.{_≡_};
 ghost use lib.ListN.{length};
-ghost use Rattle.command_chaining.specs.Reassembly.{reassemblyBuffer};
-ghost use Rattle.chaining_values.specs.ChainingValues.{reassemblyValues};
-ghost use Rattle.chain_numbers.specs.ChainNumbers.{chainNumber, chainOf};
+ghost use Rattle.chain_command.specs.Reassembly.{reassemblyBuffer};
+ghost use Rattle.capi_values_chaining.specs.ChainingValues.{reassemblyValues};
+ghost use Rattle.capi_chain_numbers.specs.ChainNumbers.{chainNumber, chainOf};
 ghost use Rattle.capi_reassemble_command.specs.ReassembleOn.{reassembleOn};
 
 // Refusals 7, 14, 4 and 6.

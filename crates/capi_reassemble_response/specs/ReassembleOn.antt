@@ -2,8 +2,8 @@
 -- Assumes nothing.
 use Prim.Native.Nat.{ℕ}
 use Rattle.octets.specs.Bytes.{Bytes}
-use Rattle.response_chaining.specs.Reassembly.{chain, reassembleResponse}
-use Rattle.response_chaining.specs.declared.ResponseReassembly.{ResponseReassembly}
+use Rattle.chain_response.specs.Reassembly.{chain, reassembleResponse}
+use Rattle.chain_response.specs.declared.ResponseReassembly.{ResponseReassembly}
 
 abbrev pub reassembleOn : ℕ → Bytes → ℕ → ResponseReassembly
 reassembleOn n bytes room = reassembleResponse (chain n) bytes room

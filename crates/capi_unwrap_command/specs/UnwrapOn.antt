@@ -1,12 +1,12 @@
 -- pivsm_unwrap_command of c/pivsm.h: the library's call on the session that the bytes hold. Assumes nothing.
 use Prim.Native.Nat.{ℕ}
 use Rattle.octets.specs.Bytes.{Bytes}
-use Rattle.answers.specs.Message.{CommandGiven}
-use Rattle.results.specs.Results.{commandAnswer}
-use Rattle.values.specs.Values.{commandValues}
-use Rattle.values.specs.declared.Values.{Values}
-use Rattle.session_bytes.specs.SessionBytes.{Served, onSession}
-use Rattle.unwrap_command.specs.UnwrapCommand.{unwrapCommand}
+use Rattle.message_answer.specs.Message.{CommandGiven}
+use Rattle.message_result.specs.Results.{commandAnswer}
+use Rattle.capi_values.specs.Values.{commandValues}
+use Rattle.capi_values.specs.declared.Values.{Values}
+use Rattle.capi_session.specs.SessionBytes.{Served, onSession}
+use Rattle.message_unwrap_command.specs.UnwrapCommand.{unwrapCommand}
 
 -- held, len: the buffer of the session, and the length of the session in it
 abbrev pub unwrapOn : Bytes → ℕ → ℕ → ℕ → ℕ → Bytes → ℕ → Served CommandGiven

@@ -1,15 +1,15 @@
 // The host unwraps a response, for programs in C (c/pivsm.h), on the bytes of a session.
-use held_session::replace_session;
-use held_session::session_in;
-use saved::Decoding;
-use unwrap_response::unwrap_response;
-use values::refusal_values;
-use values::response_values;
+use capi_session_held::replace_session;
+use capi_session_held::session_in;
+use capi_values::refusal_values;
+use capi_values::response_values;
+use message_unwrap_response::unwrap_response;
+use session_bytes::Decoding;
 ghost use mathlib.Core.Path.{_≡_};
 ghost use lib.ListN.{length};
 ghost use Rattle.octets.specs.Bytes.{IsBytes};
-ghost use Rattle.answers.specs.Answer.{buffer};
-ghost use Rattle.unwrap_response.specs.UnwrapResponse.{payloadOf};
+ghost use Rattle.message_answer.specs.Answer.{buffer};
+ghost use Rattle.message_unwrap_response.specs.UnwrapResponse.{payloadOf};
 ghost use Rattle.capi_unwrap_response.specs.UnwrapOn.{unwrapOn, unwrapGives};
 
 // Refusals 16, 1, 2, 13, 4, 7 or 8, 6, 9 and 10. `bytes` is what the types say of the arguments; the demands use it.

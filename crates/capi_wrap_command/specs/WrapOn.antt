@@ -2,11 +2,11 @@
 use mathlib.Core.Bool.{Bool}
 use Prim.Native.Nat.{ℕ}
 use Rattle.octets.specs.Bytes.{Bytes}
-use Rattle.results.specs.Results.{wrapAnswer}
-use Rattle.values.specs.Values.{wrapValues}
-use Rattle.values.specs.declared.Values.{Values}
-use Rattle.session_bytes.specs.SessionBytes.{Served, onSession}
-use Rattle.wrap_command.specs.WrapCommand.{wrapCommand}
+use Rattle.message_result.specs.Results.{wrapAnswer}
+use Rattle.capi_values.specs.Values.{wrapValues}
+use Rattle.capi_values.specs.declared.Values.{Values}
+use Rattle.capi_session.specs.SessionBytes.{Served, onSession}
+use Rattle.message_wrap_command.specs.WrapCommand.{wrapCommand}
 
 -- held, len: the buffer of the session, and the length of the session in it
 abbrev pub wrapOn : Bytes → ℕ → ℕ → ℕ → ℕ → Bool → Bytes → ℕ → Served Bytes

@@ -10,18 +10,18 @@ use lib.Dec.{eqb, ltb, lit≤}
 use lib.ListN.{length, getD}
 use Rattle.octets.specs.Bytes.{Bytes}
 use Rattle.octets.specs.Choice.{if_then_else_}
-use Rattle.wanted.specs.Wanted.{lacks, tagOf, needOf, rank}
-use Rattle.data_object.specs.Object.{readObject}
-use Rattle.fields.specs.Field.{none, noted, ended, onObject, walk, readField}
-use Rattle.wanted.specs.declared.Second.{Second}
-use Rattle.wanted.specs.declared.Wanted.{Wanted}
-use Rattle.data_object.specs.declared.Breach.{Breach}
-use Rattle.data_object.specs.declared.DataObject.{DataObject}
-use Rattle.data_object.specs.declared.ObjectRead.{ObjectRead}
-use Rattle.data_object.specs.declared.ObjectRead.the-variants.{Object, Malformed}
-use Rattle.fields.specs.declared.Objects.{Objects}
-use Rattle.fields.specs.declared.FieldRead.the-variants.{Read, Malformed as BadField, Missing}
-use Rattle.data_object.proofs.Inversion.{Stands, stands, later, rank-most}
+use Rattle.field_expected.specs.Wanted.{lacks, tagOf, needOf, rank}
+use Rattle.field_object.specs.Object.{readObject}
+use Rattle.field_walk.specs.Field.{none, noted, ended, onObject, walk, readField}
+use Rattle.field_expected.specs.declared.Second.{Second}
+use Rattle.field_expected.specs.declared.Wanted.{Wanted}
+use Rattle.field_object.specs.declared.Breach.{Breach}
+use Rattle.field_object.specs.declared.DataObject.{DataObject}
+use Rattle.field_object.specs.declared.ObjectRead.{ObjectRead}
+use Rattle.field_object.specs.declared.ObjectRead.the-variants.{Object, Malformed}
+use Rattle.field_walk.specs.declared.Objects.{Objects}
+use Rattle.field_walk.specs.declared.FieldRead.the-variants.{Read, Malformed as BadField, Missing}
+use Rattle.field_object.proofs.Inversion.{Stands, stands, later, rank-most}
 
 -- an object of that tag stands from at to next and takes the objects from o to o'
 pub record Part (w : Wanted) (xs : Bytes) (at tag next : ℕ) (o o' : Objects) : Type 0 where

@@ -12,15 +12,15 @@ use lib.Seq.{length-take-le}
 use Rattle.octets.specs.Bytes.{Bytes}
 use Rattle.octets.specs.Choice.{if_then_else_}
 use Rattle.octets.proofs.Tests.{both}
-use Rattle.wanted.specs.Wanted.{may, lacks, tagOf, needOf, rank, allowed, suits}
-use Rattle.object_values.specs.Values.{rightSize}
-use Rattle.fields.specs.Field.{none, readField, ciphertextOf}
-use Rattle.wanted.specs.declared.Need.{Need}
-use Rattle.wanted.specs.declared.Need.the-variants.{Must, May, MustNot}
-use Rattle.wanted.specs.declared.Wanted.{Wanted}
-use Rattle.data_object.specs.declared.DataObject.{DataObject}
-use Rattle.fields.specs.declared.Objects.{Objects}
-use Rattle.fields.specs.declared.FieldRead.the-variants.{Read}
+use Rattle.field_expected.specs.Wanted.{may, lacks, tagOf, needOf, rank, allowed, suits}
+use Rattle.field_object_rules.specs.Values.{rightSize}
+use Rattle.field_walk.specs.Field.{none, readField, ciphertextOf}
+use Rattle.field_expected.specs.declared.Need.{Need}
+use Rattle.field_expected.specs.declared.Need.the-variants.{Must, May, MustNot}
+use Rattle.field_expected.specs.declared.Wanted.{Wanted}
+use Rattle.field_object.specs.declared.DataObject.{DataObject}
+use Rattle.field_walk.specs.declared.Objects.{Objects}
+use Rattle.field_walk.specs.declared.FieldRead.the-variants.{Read}
 use Rattle.field_laws.specs.Written.{Conforms}
 use Rattle.field_laws.proofs.Noted.{not-data, not-mac}
 use Rattle.field_laws.proofs.Acceptance.{Optional, all-there}

@@ -7,12 +7,12 @@ use native.Mathlib.Omega.{arith}
 use borrow.Author.Tests.{eq-eqb, le-leb}
 use lib.ListN.{length}
 use Rattle.octets.specs.Bytes.{Bytes, zeros}
-use Rattle.objects.specs.Objects.{commandObjects, responseObjects, commandField, responseField}
-use Rattle.object_values.specs.Values.{rightSize}
-use Rattle.wanted.specs.declared.Need.the-variants.{May}
-use Rattle.wanted.specs.declared.Second.{Second}
-use Rattle.wanted.specs.declared.Second.the-variants.{Le, Status}
-use Rattle.wanted.specs.declared.Wanted.{Wanted}
+use Rattle.field_write.specs.Objects.{commandObjects, responseObjects, commandField, responseField}
+use Rattle.field_object_rules.specs.Values.{rightSize}
+use Rattle.field_expected.specs.declared.Need.the-variants.{May}
+use Rattle.field_expected.specs.declared.Second.{Second}
+use Rattle.field_expected.specs.declared.Second.the-variants.{Le, Status}
+use Rattle.field_expected.specs.declared.Wanted.{Wanted}
 use Rattle.field_laws.specs.Covered.{dataIn, secondIn, sw1In, sw2In}
 use Rattle.field_laws.specs.Written.{Suits, ReadsBack, WholeBlocks}
 use Rattle.field_laws.proofs.Determined.{determined}

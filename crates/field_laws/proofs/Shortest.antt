@@ -13,18 +13,18 @@ use lib.ListN.{length, getD, take, drop, length-drop}
 use lib.Seq.{length-take-le, take-add, drop-cons, drop-drop}
 use Rattle.octets.proofs.Tests.{both}
 use Rattle.octets.specs.Bytes.{Bytes, IsBytes}
-use Rattle.tlv.specs.Length.{lengthField}
-use Rattle.tlv.proofs.LengthForms.{read-shortest}
-use Rattle.objects.specs.Objects.{object, encryptedData, leObject, statusWord, commandObjects, responseObjects}
-use Rattle.wanted.specs.Wanted.{tagOf}
-use Rattle.object_values.specs.Values.{sizeOf, rightSize, rightSecond, rightValue}
-use Rattle.fields.specs.Field.{none, readField, ciphertextOf, coveredOf}
-use Rattle.wanted.specs.declared.Need.{Need}
-use Rattle.wanted.specs.declared.Second.{Second}
-use Rattle.wanted.specs.declared.Second.the-variants.{Le, Status}
-use Rattle.wanted.specs.declared.Wanted.{Wanted}
-use Rattle.fields.specs.declared.Objects.{Objects}
-use Rattle.fields.specs.declared.FieldRead.the-variants.{Read}
+use Rattle.field_ber_length.specs.Length.{lengthField}
+use Rattle.field_ber_length.proofs.LengthForms.{read-shortest}
+use Rattle.field_write.specs.Objects.{object, encryptedData, leObject, statusWord, commandObjects, responseObjects}
+use Rattle.field_expected.specs.Wanted.{tagOf}
+use Rattle.field_object_rules.specs.Values.{sizeOf, rightSize, rightSecond, rightValue}
+use Rattle.field_walk.specs.Field.{none, readField, ciphertextOf, coveredOf}
+use Rattle.field_expected.specs.declared.Need.{Need}
+use Rattle.field_expected.specs.declared.Second.{Second}
+use Rattle.field_expected.specs.declared.Second.the-variants.{Le, Status}
+use Rattle.field_expected.specs.declared.Wanted.{Wanted}
+use Rattle.field_walk.specs.declared.Objects.{Objects}
+use Rattle.field_walk.specs.declared.FieldRead.the-variants.{Read}
 use Rattle.field_laws.proofs.Acceptance.{Part, Optional}
 use Rattle.field_laws.proofs.Determined.{next-of, second-size, second-value, status-value, parts, inside, cut, second-there, status-there, data-start-of, data-length-of, data-noted, optional-behind}
 

@@ -7,13 +7,13 @@ use lib.Dec.{eqb, ltb}
 use lib.ListN.{length, getD, take, drop}
 use Rattle.octets.specs.Bytes.{Bytes}
 use Rattle.octets.specs.Choice.{if_then_else_}
-use Rattle.tlv.specs.Length.{readLength}
-use Rattle.tlv.specs.declared.LengthRead.{LengthRead}
-use Rattle.tlv.specs.declared.LengthRead.the-variants.{Length, BadForm}
-use Rattle.fields.specs.Field.{ciphertextOf, coveredOf}
-use Rattle.wanted.specs.declared.Second.the-variants.{Status}
-use Rattle.wanted.specs.declared.Wanted.{Wanted}
-use Rattle.fields.specs.declared.Objects.{Objects}
+use Rattle.field_ber_length.specs.Length.{readLength}
+use Rattle.field_ber_length.specs.declared.LengthRead.{LengthRead}
+use Rattle.field_ber_length.specs.declared.LengthRead.the-variants.{Length, BadForm}
+use Rattle.field_walk.specs.Field.{ciphertextOf, coveredOf}
+use Rattle.field_expected.specs.declared.Second.the-variants.{Status}
+use Rattle.field_expected.specs.declared.Wanted.{Wanted}
+use Rattle.field_walk.specs.declared.Objects.{Objects}
 
 -- the encrypted data of an '87' whose length was read: behind tag, length field and indicator byte
 unfoldable pub dataBehind : Bytes → LengthRead → Bytes

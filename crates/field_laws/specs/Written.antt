@@ -5,12 +5,12 @@ use Prim.Native.Nat.{ℕ, _+_, _%_, _<_, _≤_}
 use lib.Dec.{ltb}
 use lib.ListN.{length}
 use Rattle.octets.specs.Bytes.{Bytes}
-use Rattle.wanted.specs.Wanted.{needOf, suits}
-use Rattle.object_values.specs.Values.{rightSize}
-use Rattle.fields.specs.Field.{readField, ciphertextOf, coveredOf, macOf}
-use Rattle.wanted.specs.declared.Wanted.{Wanted}
-use Rattle.fields.specs.declared.Objects.{Objects}
-use Rattle.fields.specs.declared.FieldRead.the-variants.{Read}
+use Rattle.field_expected.specs.Wanted.{needOf, suits}
+use Rattle.field_object_rules.specs.Values.{rightSize}
+use Rattle.field_walk.specs.Field.{readField, ciphertextOf, coveredOf, macOf}
+use Rattle.field_expected.specs.declared.Wanted.{Wanted}
+use Rattle.field_walk.specs.declared.Objects.{Objects}
+use Rattle.field_walk.specs.declared.FieldRead.the-variants.{Read}
 
 -- encrypted data: nothing, or whole blocks up to a limit
 abbrev pub WholeBlocks : ℕ → Bytes → Type 0

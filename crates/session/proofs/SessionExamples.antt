@@ -6,11 +6,11 @@ use lib.ListN.{replicate}
 use Rattle.octets.specs.Bytes.{zeros}
 use Rattle.refusal.specs.declared.Refusal.the-variants.{UnknownSuite, BadKeyLength}
 use Rattle.session.specs.Session.{closed}
-use Rattle.stored_keys.specs.StoredKeys.{Keys, keys, keysFit}
+use Rattle.session_stored_keys.specs.StoredKeys.{Keys, keys, keysFit}
 use Rattle.session.specs.Opening.{openSuite, opening}
 use Rattle.session.specs.declared.Side.the-variants.{Host, Card}
 use Rattle.session.specs.declared.Phase.the-variants.{Ready, Closed}
-use Rattle.suite.specs.declared.Suite.the-variants.{Cs2}
+use Rattle.session_suite.specs.declared.Suite.the-variants.{Cs2}
 use Rattle.session.specs.declared.Opening.the-variants.{Opened as Done, Refused}
 use Rattle.session.specs.declared.Session.{Session}
 

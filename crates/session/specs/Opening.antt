@@ -3,12 +3,12 @@ use Prim.Native.Nat.{ℕ}
 use Rattle.octets.specs.Choice.{if_then_else_}
 use Rattle.refusal.specs.declared.Refusal.{Refusal}
 use Rattle.refusal.specs.declared.Refusal.the-variants.{UnknownSuite, BadKeyLength}
-use Rattle.suite.specs.Suites.{keyLength, suiteOf}
-use Rattle.stored_keys.specs.StoredKeys.{Keys, keysFit, stored}
+use Rattle.session_suite.specs.Suites.{keyLength, suiteOf}
+use Rattle.session_stored_keys.specs.StoredKeys.{Keys, keysFit, stored}
 use Rattle.session.specs.Session.{fresh, noSession}
 use Rattle.session.specs.declared.Side.{Side}
-use Rattle.suite.specs.declared.SuiteNumber.{SuiteNumber}
-use Rattle.suite.specs.declared.SuiteNumber.the-variants.{Known, Unknown}
+use Rattle.session_suite.specs.declared.SuiteNumber.{SuiteNumber}
+use Rattle.session_suite.specs.declared.SuiteNumber.the-variants.{Known, Unknown}
 use Rattle.session.specs.declared.Opening.the-variants.{Opened as Done, Refused}
 use Rattle.session.specs.declared.Opened.{Opened}
 

@@ -2,8 +2,8 @@
 use Rattle.octets.specs.Bytes.{Bytes, zeros}
 use Rattle.session.specs.declared.Side.{Side}
 use Rattle.session.specs.declared.Phase.the-variants.{Ready, Closed}
-use Rattle.suite.specs.declared.Suite.{Suite}
-use Rattle.suite.specs.declared.Suite.the-variants.{Cs2}
+use Rattle.session_suite.specs.declared.Suite.{Suite}
+use Rattle.session_suite.specs.declared.Suite.the-variants.{Cs2}
 use Rattle.session.specs.declared.Session.{Session}
 
 -- opened: count 0, two chaining values of 16 zero bytes, and ready

@@ -1,1 +1,4 @@
-pub mod OnSession
+pub mod SavedParts
+pub mod DecodeEncode
+pub mod EncodeDecode
+pub mod SavedExamples

@@ -1,2 +1,105 @@
-// The session of a call from C: bytes at the start of a buffer that the caller keeps (document 01, "The saved session"). Definitions and their
-// laws, and no code.
+// The session as 138 bytes (document 01, "The saved session"): writing it, and the laws of writing and reading.
+use octets::put_bytes;
+use refusal::Refusal;
+use session::Phase;
+use session::Session;
+use session::Side;
+ghost use mathlib.Core.Path.{_≡_};
+ghost use Prim.Native.Nat.{_+_, _≤_};
+ghost use lib.ListN.{length};
+ghost use Rattle.octets.specs.Write.{Wrote};
+ghost use Rattle.session_bytes.specs.Saved.{sideNumber, phaseNumber, header, keys, mcvs, encode};
+
+// The length of a saved session.
+pub const SIZE: usize = 138;
+
+pub enum Decoding {
+    Decoded,
+    Refused(Refusal),
+}
+
+// The answer of a reading, and the session; where it is refused, what stands for none.
+pub struct Decoded {
+    pub answer: Decoding,
+    pub session: Session,
+}
+
+fn side_number(side: Side) -> u8
+    ensures { λ n. ⌜ n ≡ sideNumber side ⌝ }
+{
+    match side {
+        Side::Host => 0,
+        Side::Card => 1,
+    }
+}
+
+fn phase_number(phase: Phase) -> u8
+    ensures { λ n. ⌜ n ≡ phaseNumber phase ⌝ }
+{
+    match phase {
+        Phase::Ready => 0,
+        Phase::Pending => 1,
+        Phase::Closed => 2,
+    }
+}
+
+fn put_header(session: Session, out: &mut [u8]) -> usize
+    requires { ⌜ 10 ≤ length (now out) ⌝ }
+    ensures { λ next. ⌜ Wrote (now (out .entry)) 0 (header session) next (now (out .exit)) ⌝ }
+{
+    let side = session.side;
+    let phase = session.phase;
+    let suite = session.suite;
+    let count = session.count;
+    let d = side_number(side);
+    let p = phase_number(phase);
+    let u = suite.number();
+    put_bytes(
+        out,
+        0,
+        &[
+            0x00,
+            0x88,
+            0x01,
+            d,
+            p,
+            u,
+            (count / 16777216 % 256) as u8,
+            (count / 65536 % 256) as u8,
+            (count / 256 % 256) as u8,
+            (count % 256) as u8,
+        ],
+    )
+}
+
+fn put_keys(session: Session, out: &mut [u8], at: usize) -> usize
+    requires { ⌜ at + 96 ≤ length (now out) ⌝ }
+    ensures { λ next. ⌜ Wrote (now (out .entry)) at (keys session) next (now (out .exit)) ⌝ }
+{
+    let sk_enc = session.sk_enc;
+    let sk_mac = session.sk_mac;
+    let sk_rmac = session.sk_rmac;
+    let m = put_bytes(out, at, &sk_enc);
+    let r = put_bytes(out, m, &sk_mac);
+    put_bytes(out, r, &sk_rmac)
+}
+
+fn put_mcvs(session: Session, out: &mut [u8], at: usize) -> usize
+    requires { ⌜ at + 32 ≤ length (now out) ⌝ }
+    ensures { λ next. ⌜ Wrote (now (out .entry)) at (mcvs session) next (now (out .exit)) ⌝ }
+{
+    let command_mcv = session.command_mcv;
+    let response_mcv = session.response_mcv;
+    let r = put_bytes(out, at, &command_mcv);
+    put_bytes(out, r, &response_mcv)
+}
+
+// Of any session: the caller has the room.
+pub fn put_session(session: Session, out: &mut [u8]) -> usize
+    requires { ⌜ 138 ≤ length (now out) ⌝ }
+    ensures { λ next. ⌜ Wrote (now (out .entry)) 0 (encode session) next (now (out .exit)) ⌝ }
+{
+    let k = put_header(session, out);
+    let m = put_keys(session, out, k);
+    put_mcvs(session, out, m)
+}

@@ -6,11 +6,11 @@ use Rattle.octets.specs.Bytes.{Bytes}
 use Rattle.octets.specs.Write.{over}
 use Rattle.session.specs.Session.{closed}
 use Rattle.session.specs.declared.Session.{Session}
-use Rattle.saved.specs.Saved.{encode}
-use Rattle.answers.specs.Answer.{gave, Out, buffer}
-use Rattle.values.specs.Values.{given, refusalValues}
-use Rattle.values.specs.declared.Values.{Values}
-use Rattle.session_bytes.proofs.OnSession.{was-read, was-not-read, has-room}
+use Rattle.session_bytes.specs.Saved.{encode}
+use Rattle.message_answer.specs.Answer.{gave, Out, buffer}
+use Rattle.capi_values.specs.Values.{given, refusalValues}
+use Rattle.capi_values.specs.declared.Values.{Values}
+use Rattle.capi_session.proofs.OnSession.{was-read, was-not-read, has-room}
 use Rattle.capi_close.specs.CloseOn.{closeValues}
 use Rattle.capi_close.proofs.pivsm_close.Statement.{statement}
 use Rattle.capi_close.proofs.pivsm_close.Tie as tie

@@ -7,8 +7,8 @@ use Rattle.octets.specs.Bytes.{Bytes}
 use Rattle.octets.specs.Write.{over}
 use Rattle.octets.proofs.Writing.{wrote-all}
 use Rattle.refusal.specs.declared.Refusal.the-variants.{BufferTooSmall}
-use Rattle.answers.specs.Answer.{Answer, refused, gave, buffer, require_else_⨾_}
-use Rattle.response_chaining.specs.Reassembly.{getResponse}
+use Rattle.message_answer.specs.Answer.{Answer, refused, gave, buffer, require_else_⨾_}
+use Rattle.chain_response.specs.Reassembly.{getResponse}
 use Rattle.capi_get_response.specs.GetResponse.{getResponseOf, getResponseGives}
 use Rattle.capi_get_response.proofs.pivsm_get_response.Statement.{statement}
 use Rattle.capi_get_response.proofs.pivsm_get_response.Tie as tie

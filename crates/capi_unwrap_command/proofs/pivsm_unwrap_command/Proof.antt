@@ -6,15 +6,15 @@ use borrow.Author.Needs.{needs}
 use Rattle.octets.specs.Bytes.{Bytes}
 use Rattle.octets.specs.Write.{over}
 use Rattle.session.specs.declared.Session.{Session}
-use Rattle.saved.specs.Saved.{encode}
-use Rattle.answers.specs.Answer.{Out}
-use Rattle.answers.specs.Message.{CommandGiven}
-use Rattle.results.specs.Results.{commandAnswer}
-use Rattle.results.specs.declared.CommandResult.{CommandResult}
-use Rattle.values.specs.Values.{commandValues}
-use Rattle.values.specs.declared.Values.{Values}
-use Rattle.session_bytes.proofs.OnSession.{was-read, was-not-read, has-room}
-use Rattle.unwrap_command.specs.UnwrapCommand.{unwrapCommand, payloadOf}
+use Rattle.session_bytes.specs.Saved.{encode}
+use Rattle.message_answer.specs.Answer.{Out}
+use Rattle.message_answer.specs.Message.{CommandGiven}
+use Rattle.message_result.specs.Results.{commandAnswer}
+use Rattle.message_result.specs.declared.CommandResult.{CommandResult}
+use Rattle.capi_values.specs.Values.{commandValues}
+use Rattle.capi_values.specs.declared.Values.{Values}
+use Rattle.capi_session.proofs.OnSession.{was-read, was-not-read, has-room}
+use Rattle.message_unwrap_command.specs.UnwrapCommand.{unwrapCommand, payloadOf}
 use Rattle.capi_unwrap_command.proofs.pivsm_unwrap_command.Statement.{statement}
 use Rattle.capi_unwrap_command.proofs.pivsm_unwrap_command.Tie as tie
 

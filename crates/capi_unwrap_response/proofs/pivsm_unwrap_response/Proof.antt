@@ -6,15 +6,15 @@ use borrow.Author.Needs.{needs}
 use Rattle.octets.specs.Bytes.{Bytes}
 use Rattle.octets.specs.Write.{over}
 use Rattle.session.specs.declared.Session.{Session}
-use Rattle.saved.specs.Saved.{encode}
-use Rattle.answers.specs.Answer.{Out}
-use Rattle.answers.specs.Message.{Response}
-use Rattle.results.specs.Results.{responseAnswer}
-use Rattle.results.specs.declared.ResponseResult.{ResponseResult}
-use Rattle.values.specs.Values.{responseValues}
-use Rattle.values.specs.declared.Values.{Values}
-use Rattle.session_bytes.proofs.OnSession.{was-read, was-not-read, has-room}
-use Rattle.unwrap_response.specs.UnwrapResponse.{unwrapResponse, payloadOf}
+use Rattle.session_bytes.specs.Saved.{encode}
+use Rattle.message_answer.specs.Answer.{Out}
+use Rattle.message_answer.specs.Message.{Response}
+use Rattle.message_result.specs.Results.{responseAnswer}
+use Rattle.message_result.specs.declared.ResponseResult.{ResponseResult}
+use Rattle.capi_values.specs.Values.{responseValues}
+use Rattle.capi_values.specs.declared.Values.{Values}
+use Rattle.capi_session.proofs.OnSession.{was-read, was-not-read, has-room}
+use Rattle.message_unwrap_response.specs.UnwrapResponse.{unwrapResponse, payloadOf}
 use Rattle.capi_unwrap_response.proofs.pivsm_unwrap_response.Statement.{statement}
 use Rattle.capi_unwrap_response.proofs.pivsm_unwrap_response.Tie as tie
 

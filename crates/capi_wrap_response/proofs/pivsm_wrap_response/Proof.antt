@@ -6,14 +6,14 @@ use borrow.Author.Needs.{needs}
 use Rattle.octets.specs.Bytes.{Bytes}
 use Rattle.octets.specs.Write.{over}
 use Rattle.session.specs.declared.Session.{Session}
-use Rattle.saved.specs.Saved.{encode}
-use Rattle.answers.specs.Answer.{Out}
-use Rattle.results.specs.Results.{wrapAnswer}
-use Rattle.results.specs.declared.WrapResult.{WrapResult}
-use Rattle.values.specs.Values.{wrapValues}
-use Rattle.values.specs.declared.Values.{Values}
-use Rattle.session_bytes.proofs.OnSession.{was-read, was-not-read, has-room}
-use Rattle.wrap_response.specs.WrapResponse.{wrapResponse}
+use Rattle.session_bytes.specs.Saved.{encode}
+use Rattle.message_answer.specs.Answer.{Out}
+use Rattle.message_result.specs.Results.{wrapAnswer}
+use Rattle.message_result.specs.declared.WrapResult.{WrapResult}
+use Rattle.capi_values.specs.Values.{wrapValues}
+use Rattle.capi_values.specs.declared.Values.{Values}
+use Rattle.capi_session.proofs.OnSession.{was-read, was-not-read, has-room}
+use Rattle.message_wrap_response.specs.WrapResponse.{wrapResponse}
 use Rattle.capi_wrap_response.proofs.pivsm_wrap_response.Statement.{statement}
 use Rattle.capi_wrap_response.proofs.pivsm_wrap_response.Tie as tie
 

@@ -1,0 +1,87 @@
+// The number and the values of each call's answer (document 01, "The numbered answers"), as the calls from C give them.
+use message_result::CommandAnswer;
+use message_result::ResponseAnswer;
+use message_result::WrapAnswer;
+use refusal::Refusal;
+use refusal::status_word;
+ghost use mathlib.Core.Path.{_≡_};
+ghost use Rattle.capi_values.specs.Values.{given, refusalValues, wrapValues, commandValues, responseValues};
+
+// 0 and false where an answer has no such value.
+pub struct Values {
+    // 0 where the call is not refused.
+    pub number: u32,
+    // Of what stands in the caller's buffer, or the size needed.
+    pub len: usize,
+    // SW1 * 256 + SW2.
+    pub status: u16,
+    // Whether Le is present.
+    pub le: bool,
+    // The header of a command that is whole.
+    pub ins: u8,
+    pub p1: u8,
+    pub p2: u8,
+    // The index of a field where the next fragment starts.
+    pub next: usize,
+}
+
+// No Le, no header and no next index.
+pub fn given(number: u32, len: usize, status: u16) -> Values
+    ensures { λ values. ⌜ values ≡ given number len status ⌝ }
+{
+    Values {
+        number,
+        len,
+        status,
+        le: false,
+        ins: 0,
+        p1: 0,
+        p2: 0,
+        next: 0,
+    }
+}
+
+pub fn refusal_values(refusal: Refusal) -> Values
+    ensures { λ values. ⌜ values ≡ refusalValues refusal ⌝ }
+{
+    let number = refusal.number();
+    let size = refusal.size();
+    let status = refusal.status();
+    given(number, size, status)
+}
+
+pub fn wrap_values(answer: WrapAnswer) -> Values
+    ensures { λ values. ⌜ values ≡ wrapValues answer ⌝ }
+{
+    match answer {
+        WrapAnswer::Wrapped(n) => given(0, n, 0),
+        WrapAnswer::Refused(refusal) => refusal_values(refusal),
+    }
+}
+
+pub fn command_values(answer: CommandAnswer) -> Values
+    ensures { λ values. ⌜ values ≡ commandValues answer ⌝ }
+{
+    match answer {
+        CommandAnswer::Accepted(n, le) => Values {
+            number: 0,
+            len: n,
+            status: 0,
+            le,
+            ins: 0,
+            p1: 0,
+            p2: 0,
+            next: 0,
+        },
+        CommandAnswer::Refused(refusal) => refusal_values(refusal),
+    }
+}
+
+pub fn response_values(answer: ResponseAnswer) -> Values
+    ensures { λ values. ⌜ values ≡ responseValues answer ⌝ }
+{
+    match answer {
+        ResponseAnswer::Accepted(n, sw1, sw2) => given(0, n, status_word(sw1, sw2)),
+        ResponseAnswer::Refused(refusal) => refusal_values(refusal),
+    }
+}

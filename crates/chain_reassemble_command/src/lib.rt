@@ -1,0 +1,45 @@
+// A command field is put together again from its fragments (document 01, "The wire").
+use chain_apdu_read::is_last;
+use chain_apdu_read::lc;
+use chain_command::CommandChain;
+use chain_command::Reassembly;
+use chain_command::ReassemblyAnswer;
+use chain_reassemble_command_chain::empty_chain;
+use chain_reassemble_command_chain::taken;
+use chain_reassemble_command_checks::reassembly_checks;
+use message_result::Checked;
+use octets::put_bytes;
+ghost use mathlib.Core.Path.{_≡_};
+ghost use Prim.Native.Nat.{_+_, _≤_};
+ghost use lib.ListN.{length};
+ghost use Rattle.octets.specs.Write.{put};
+ghost use Rattle.chain_command.specs.Apdu.{headerOf, lc, dataOf, isLast};
+ghost use Rattle.chain_command.specs.Reassembly.{empty, total, taken, reassembleCommand, reassemblyBuffer};
+
+// The data of a fragment that passed its tests, behind what stands in the caller's buffer.
+fn take_fragment(chain: CommandChain, apdu: &[u8], out: &mut [u8]) -> Reassembly
+    requires { ⌜ (5 + lc (now apdu) ≤ length (now apdu)) × (total chain (now apdu) ≤ length (now out)) ⌝ }
+    ensures result { λ r. ⌜ r ≡ taken (headerOf (now (apdu .entry))) (total chain (now (apdu .entry))) (isLast (now (apdu .entry))) ⌝ }
+    ensures output { λ _. ⌜ now (out .exit) ≡ put (now (out .entry)) (chain .len) (dataOf (now (apdu .entry))) ⌝ }
+{
+    let len = chain.len;
+    let end = 5 + lc(apdu);
+    let n = put_bytes(out, len, &apdu[5..end]);
+    taken(apdu[1], apdu[2], apdu[3], n, is_last(apdu))
+}
+
+// One fragment of a command: refusals 7, 14, 4 and 6, and each drops the chain.
+pub fn reassemble_command(chain: CommandChain, apdu: &[u8], out: &mut [u8]) -> Reassembly
+    ensures result { λ r. ⌜ r ≡ reassembleCommand chain (now (apdu .entry)) (length (now (out .entry))) ⌝ }
+    ensures output { λ _. ⌜ now (out .exit) ≡ reassemblyBuffer chain (now (apdu .entry)) (now (out .entry)) ⌝ }
+{
+    let empty = empty_chain();
+    let checked = reassembly_checks(chain, apdu, out.len());
+    match checked {
+        Checked::Passed => take_fragment(chain, apdu, out),
+        Checked::Refused(refusal) => Reassembly {
+            answer: ReassemblyAnswer::Refused(refusal),
+            chain: empty,
+        },
+    }
+}

@@ -1,0 +1,49 @@
+-- Document 01, "Objects, encryption and MAC": what each side's field may hold, and in which order. Assumes nothing.
+use mathlib.Core.Bool.{Bool, true, false, _&&_, not}
+use Prim.Native.Nat.{ℕ}
+use lib.Dec.{eqb, ltb}
+use Rattle.octets.specs.Choice.{if_then_else_}
+use Rattle.field_expected.specs.declared.Need.{Need}
+use Rattle.field_expected.specs.declared.Need.the-variants.{Must, May, MustNot}
+use Rattle.field_expected.specs.declared.Second.{Second}
+use Rattle.field_expected.specs.declared.Second.the-variants.{Le, Status}
+use Rattle.field_expected.specs.declared.Wanted.{Wanted}
+
+abbrev pub may : Need → Bool
+may Must = true
+may May = true
+may MustNot = false
+
+-- whether an object that must be there isn't
+abbrev pub lacks : Need → Bool → Bool
+lacks Must there = not there
+lacks May there = false
+lacks MustNot there = false
+
+-- the second object's tag and need
+abbrev pub tagOf : Second → ℕ
+tagOf (Le need) = 0x97
+tagOf (Status sw1 sw2) = 0x99
+
+abbrev pub needOf : Second → Need
+needOf (Le need) = need
+needOf (Status sw1 sw2) = Must
+
+-- the place of a tag in the side's list, from 1; 0 for a tag that isn't in it
+unfoldable pub rank : Second → ℕ → ℕ
+rank second tag =
+    if eqb tag 0x87 then 1 else
+    if eqb tag (tagOf second) then 2 else
+    if eqb tag 0x8E then 3 else 0
+
+-- whether the tag may stand after an object at place r (0: none): it is in the list, later than that, and not unwanted
+unfoldable pub allowed : Wanted → ℕ → ℕ → Bool
+allowed w r tag =
+    ltb r (rank (w .second) tag)
+    && (if eqb tag 0x87 then may (w .«data») else if eqb tag 0x8E then true else may (needOf (w .second)))
+
+-- whether an object may be there, or be absent
+abbrev pub suits : Need → Bool → Bool
+suits Must there = there
+suits May there = true
+suits MustNot there = not there

@@ -1,0 +1,41 @@
+// What a secure messaging field should hold, and the tag and the need of its second object (document 01, "Objects, encryption and MAC").
+ghost use mathlib.Core.Path.{_≡_};
+ghost use Rattle.field_expected.specs.Wanted.{tagOf, needOf};
+
+// Whether an object must, may or must not be there.
+pub enum Need {
+    Must,
+    May,
+    MustNot,
+}
+
+// The object between '87' and '8E': Le ('97') in a command, the status word ('99') in a response, which must be the one given.
+pub enum Second {
+    Le(Need),
+    Status(u8, u8),
+}
+
+// What a field should hold: whether there is encrypted data, how long it may be, and the second object.
+pub struct Wanted {
+    pub data: Need,
+    pub limit: usize,
+    pub second: Second,
+}
+
+pub fn second_tag(second: Second) -> u8
+    ensures { λ r. ⌜ r ≡ tagOf second ⌝ }
+{
+    match second {
+        Second::Le(_) => 0x97,
+        Second::Status(_, _) => 0x99,
+    }
+}
+
+pub fn second_need(second: Second) -> Need
+    ensures { λ r. ⌜ r ≡ needOf second ⌝ }
+{
+    match second {
+        Second::Le(need) => need,
+        Second::Status(_, _) => Need::Must,
+    }
+}

@@ -1,0 +1,53 @@
+// The value that an object of a field must have (document 01, "Objects, encryption and MAC").
+use field_expected::Second;
+use field_expected::Wanted;
+ghost use mathlib.Core.Path.{_≡_};
+ghost use Prim.Native.Nat.{_+_};
+ghost use lib.ListN.{getD};
+ghost use Rattle.field_object_rules.specs.Values.{rightSecond, rightValue};
+
+fn byte_at(bytes: &[u8], at: usize) -> u8
+    ensures { λ r. ⌜ r ≡ getD (now (bytes .entry)) at 0 ⌝ }
+{
+    if at < bytes.len() {
+        return bytes[at];
+    }
+    0
+}
+
+fn byte_after(bytes: &[u8], at: usize) -> u8
+    ensures { λ r. ⌜ r ≡ getD (now (bytes .entry)) (at + 1) 0 ⌝ }
+{
+    if at < bytes.len() {
+        return byte_at(bytes, at + 1);
+    }
+    0
+}
+
+fn right_second(second: Second, bytes: &[u8], at: usize) -> bool
+    ensures { λ r. ⌜ r ≡ rightSecond second (now (bytes .entry)) at ⌝ }
+{
+    match second {
+        Second::Le(_) => byte_at(bytes, at) == 0,
+        Second::Status(sw1, sw2) => {
+            if byte_at(bytes, at) != sw1 {
+                return false;
+            }
+            byte_after(bytes, at) == sw2
+        }
+    }
+}
+
+// Whether the value at index `at` is one of the object of that tag.
+pub fn right_value(wanted: Wanted, tag: u8, bytes: &[u8], at: usize) -> bool
+    ensures { λ r. ⌜ r ≡ rightValue wanted tag (now (bytes .entry)) at ⌝ }
+{
+    let second = wanted.second;
+    if tag == 0x87 {
+        return byte_at(bytes, at) == 1;
+    }
+    if tag == 0x8E {
+        return true;
+    }
+    right_second(second, bytes, at)
+}

@@ -1,0 +1,28 @@
+-- How long the encrypted data and its object are at most: for the sums of the lengths, and for the calls that check the room.
+-- Assumes nothing.
+use mathlib.Core.Bool.{Bool, true, false}
+use Prim.Native.Nat.{ℕ, _+_, _*_, _/_, _<_, _≤_}
+use native.Mathlib.Omega.{arith}
+use lib.Dec.{eqb}
+use lib.ListN.{length}
+use Rattle.octets.specs.Choice.{if_then_else_}
+use Rattle.field_padding.specs.Padding.{paddedLength}
+use Rattle.field_ber_length.specs.Length.{lengthField}
+use Rattle.field_ber_length.proofs.LengthForms.{length-field-most}
+use Rattle.field_size.specs.Lengths.{ciphertextLength, encryptedDataLength}
+
+pub data-most : (e : ℕ) → encryptedDataLength e ≤ e + 5
+unfolding encryptedDataLength
+data-most e = go (eqb e 0)
+  where
+    go : (t : Bool) → (if t then 0 else 2 + length (lengthField (e + 1)) + e) ≤ e + 5
+    go true = omega arith
+    go false = omega (arith, length-field-most (e + 1))
+
+pub ciphertext-most : (p : ℕ) → p < 65536 → ciphertextLength p ≤ 65536
+unfolding ciphertextLength paddedLength
+ciphertext-most p h = go (eqb p 0)
+  where
+    go : (t : Bool) → (if t then 0 else 16 * (p / 16 + 1)) ≤ 65536
+    go true = omega arith
+    go false = omega arith

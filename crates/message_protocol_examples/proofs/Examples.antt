@@ -1,0 +1,450 @@
+-- Runs that the checker computes, with ciphers small enough to be computed: an honest run of two exchanges agrees and is not
+-- excepted; with a MAC that is always zeros, one run breaks each part of the claim.
+-- Assumes nothing.
+use mathlib.Core.Path.{_≡_, refl, sym, ap, ap₂, _∙_}
+use mathlib.Core.Logic.{inl, inr}
+use mathlib.Core.Bool.{Bool, true, false, _&&_, _||_, not}
+use mathlib.Core.List.{List, [], _∷_, _++_, foldr, map, List·Memᴰ, List·Memᴰ·head, List·Memᴰ·tail, List·Memᴰ·not-nil}
+use mathlib.Core.Option.{Option, some}
+use Prim.Native.Nat.{ℕ, zero, suc, _+_, _*_, _/_, _%_, _<_}
+use native.Mathlib.Omega.{arith}
+use Rattle.message_ciphers.proofs.ByteLists.{bytes-nil, bytes-cons}
+use Rattle.message_protocol.proofs.Runs.{agreement}
+use borrow.Author.Tests.{ltb-true, eqb-true, eqb-false, ne-eqb}
+use lib.Dec.{eqb, ltb}
+use lib.ListN.{length, replicate, getD, take, length-map}
+use Rattle.octets.proofs.Tests.{both}
+use Rattle.octets.specs.Bytes.{Bytes, IsBytes, zeros, _⊕_}
+use Rattle.octets.specs.Choice.{if_then_else_}
+use Rattle.octets.proofs.Xor.{xor-undo}
+use Rattle.message_mac_compare.specs.Same.{same}
+use Rattle.message_mac_compare.proofs.SameBytes.{same-eq, same-self}
+use Rattle.field_padding.specs.Padding.{padding, pad, paddedLength, marked, markBefore, unpad}
+use Rattle.field_padding.proofs.Lengths.{length-pad}
+use Rattle.field_ber_length.specs.Length.{lengthField, readLength, isShortest}
+use Rattle.field_expected.specs.Wanted.{rank, allowed}
+use Rattle.field_object_rules.specs.Values.{rightSize, rightSecond, rightValue}
+use Rattle.field_object.specs.Object.{require_else_⨾_ as need_else_⨾_, withLength, readObject}
+use Rattle.field_walk.specs.Field.{noted as notedObject, ended, onObject, walk, readField}
+use Rattle.field_write.specs.Objects.{object, encryptedData, leObject, statusWord, macObject, commandObjects, responseObjects, commandField, responseField}
+use Rattle.field_size.specs.Lengths.{ciphertextLength, encryptedDataLength, commandLength, responseLength}
+use Rattle.message_mac.specs.MacInput.{encodedHeader, commandMacInput, responseMacInput}
+use Rattle.session_rules.specs.Valid.{keepsPhase, valid, countsAsOpen}
+use Rattle.session_zeros.specs.ZeroBytes.{allZero, keysEnd, keysZero, mcvsZero}
+use Rattle.session_turn.specs.Turn.{isTurn}
+use Rattle.session_stored_keys.specs.StoredKeys.{Keys, keysFit}
+use Rattle.session.specs.Opening.{openSuite, opening}
+use Rattle.session.specs.declared.Side.the-variants.{Host, Card}
+use Rattle.message_ciphers.specs.Ciphers.{Ciphers, Laws}
+use Rattle.message_ciphers.specs.Aes.{dataIn}
+use Rattle.message_ciphers.proofs.PaddedData.{data-padded}
+use Rattle.message_answer.specs.Message.{CommandHeader, StatusWord, Command, Response}
+use Rattle.message_permission.specs.Permission.{insPermitted, leNeed, dataNeed, commandPermitted, statusPermitted, commandWanted, responseWanted}
+use Rattle.message_counter.specs.Counter.{bigEndian, commandCounter, responseCounter}
+use Rattle.message_answer.specs.Answer.{Answer, refused, gave, require_else_⨾_, _and-then_, afterRefusal, concluded}
+use Rattle.message_protocol.specs.Reading.{objectsOf, textOf}
+use Rattle.message_protocol.specs.Command.{commandInput, wrapCommandChecks, unwrapCommandChecks, commandMac, commandCiphertext, commandWrapped, commandAccepted, hostWraps, openCommand, cardUnwraps}
+use Rattle.message_protocol.specs.Response.{wrapResponseChecks, unwrapResponseChecks, responseMac, responseCiphertext, responseWrapped, responseAccepted, cardWraps, openResponse, hostUnwraps}
+use Rattle.message_protocol.specs.Transcript.{Call, wrapCommand, unwrapCommand, wrapResponse, unwrapResponse, close, Entry, messages, Transcript, lastMac, chaining, encrypted, wrapped, received, acceptedCommand, acceptedResponse, noted, entered, State, moved, does, step, run, start}
+use Rattle.message_protocol.specs.Agreement.{Agrees, chainingValues, MacBreak, Excepted, AllBytes}
+
+-- ---- toy ciphers
+
+toyMac : Bytes → Bytes → Bytes
+toyMac k m = let h = foldr (λ x a. (a * 31 + x + 7) % 65521) 1 (k ++ m) in h % 256 ∷ h / 256 ∷ zeros 14
+
+-- the padded data, each byte xored with the counter's last
+xorAll : ℕ → Bytes → Bytes
+xorAll b xs = map (λ x. x ⊕ b) xs
+
+toyEncrypt : Bytes → Bytes → Bytes → Bytes
+toyEncrypt k n d = if eqb (length d) 0 then [] else xorAll (getD n 15 0) (pad d)
+
+toyDecrypt : Bytes → Bytes → Bytes → Option Bytes
+toyDecrypt k n c = if eqb (length c) 0 then some [] else dataIn (xorAll (getD n 15 0) c) (unpad (xorAll (getD n 15 0) c))
+
+toy : Ciphers
+toy = record { mac = toyMac; encrypt = toyEncrypt; decrypt = toyDecrypt }
+
+no-data : (d : Bytes) → length d ≡ 0 → d ≡ []
+no-data [] e = refl
+no-data (b ∷ d) e = let z : ⊥ = omega (arith, e) in absurd z
+
+xor-undone : (b : ℕ) (xs : Bytes) → xorAll b (xorAll b xs) ≡ xs
+unfolding xorAll
+xor-undone b [] = refl
+xor-undone b (x ∷ xs) = ap₂ (λ (y : ℕ) (ys : Bytes). y ∷ ys) (xor-undo x b) (xor-undone b xs)
+
+length-xorAll : (b : ℕ) (xs : Bytes) → length (xorAll b xs) ≡ length xs
+unfolding xorAll
+length-xorAll b xs = length-map xs (λ x. x ⊕ b)
+
+toy-length : (n d : Bytes) → length (toyEncrypt [] n d) ≡ ciphertextLength (length d)
+unfolding toyEncrypt ciphertextLength
+toy-length n d = go (eqb (length d) 0)
+  where
+    go : (t : Bool) → length (if t then [] else xorAll (getD n 15 0) (pad d)) ≡ (if t then 0 else paddedLength (length d))
+    go true = refl
+    go false = length-xorAll (getD n 15 0) (pad d) ∙ length-pad d
+
+toy-undone : (n d : Bytes) → toyDecrypt [] n (toyEncrypt [] n d) ≡ some d
+unfolding toyEncrypt toyDecrypt paddedLength
+toy-undone n d = go (eqb (length d) 0) refl
+  where
+    go : (t : Bool) → eqb (length d) 0 ≡ t → toyDecrypt [] n (if t then [] else xorAll (getD n 15 0) (pad d)) ≡ some d
+    go true e = ap some (sym (no-data d (eqb-true (length d) 0 e)))
+    go false e =
+        let f : length d ≡ 0 → ⊥ = eqb-false (length d) 0 e in
+        let g : length (xorAll (getD n 15 0) (pad d)) ≡ 0 → ⊥ = λ z. omega (arith, length-pad d, length-xorAll (getD n 15 0) (pad d), z) in
+        rw (ne-eqb (length (xorAll (getD n 15 0) (pad d))) 0 g, xor-undone (getD n 15 0) (pad d)) (data-padded d (omega (arith, f)))
+
+toy-laws : Laws toy
+unfolding toy toyMac toyEncrypt toyDecrypt
+toy-laws = record { mac-length = λ k m key. refl; encrypt-length = λ k n d key c y. toy-length n d; decrypt-encrypt = λ k n d key c y. toy-undone n d }
+
+-- a MAC that is always zeros
+flat : Ciphers
+flat = record { mac = λ k m. zeros 16; encrypt = toyEncrypt; decrypt = toyDecrypt }
+
+-- ---- messages
+
+keys : Keys
+keys = record { enc = replicate 16 1; mac = replicate 16 2; rmac = replicate 16 3 }
+
+verify : Command
+verify = record { header = record { ins = 0x20; p1 = 0x00; p2 = 0x98; le = false }; payload = 0x36 ∷ 0x35 ∷ 0x31 ∷ [] }
+
+getData : Command
+getData = record { header = record { ins = 0xCB; p1 = 0x3F; p2 = 0xFF; le = true }; payload = 0x5C ∷ 0x03 ∷ [] }
+
+okay : Response
+okay = record { header = record { sw1 = 0x90; sw2 = 0x00 }; payload = [] }
+
+certificate : Response
+certificate = record { header = record { sw1 = 0x90; sw2 = 0x00 }; payload = replicate 130 7 }
+
+-- ---- runs
+
+fieldOf : Answer Bytes → Bytes
+fieldOf (refused r) = []
+fieldOf (gave field) = field
+
+begin : State
+begin = start (opening Host 2 keys .session) (opening Card 2 keys .session)
+
+-- the calls of one honest exchange from this state
+exchange : Ciphers → State → Command → Response → List Call
+exchange C st m r =
+    let c1 = wrapCommand Host m 3000 in
+    let c2 = unwrapCommand Card (m .header .ins) (m .header .p1) (m .header .p2) (fieldOf (hostWraps C (st .host) m 3000 .answer)) 3000 in
+    let st2 = run C keys st (c1 ∷ c2 ∷ []) in
+    c1 ∷ c2 ∷ wrapResponse Card r 20000 ∷ unwrapResponse Host (r .header) (fieldOf (cardWraps C (st2 .card) r 20000 .answer)) 20000 ∷ []
+
+two : Ciphers → List Call
+two C = let first = exchange C begin verify okay in first ++ exchange C (run C keys begin first) getData certificate
+
+counts : Transcript → List ℕ
+counts t =
+    length (t .commandsWrapped) ∷ length (t .commandsAccepted) ∷ length (t .responsesWrapped) ∷ length (t .responsesAccepted) ∷ []
+
+-- ---- when chaining values are distinct
+
+among : Bytes → List Bytes → Bool
+among x [] = false
+among x (y ∷ l) = same x y || among x l
+
+distinct : List Bytes → Bool
+distinct [] = true
+distinct (x ∷ l) = not (among x l) && distinct l
+
+among-at : (x : Bytes) (l : List Bytes) (j : ℕ) → j < length l → x ≡ getD l j [] → among x l ≡ true
+unfolding among
+among-at x [] j h e = let z : ⊥ = omega arith in absurd z
+among-at x (y ∷ l) zero h e = rw (ap (same x) (sym e) ∙ same-self x)
+among-at x (y ∷ l) (suc j) h e = rw (among-at x l j (omega arith) e) (or-true (same x y))
+  where
+    or-true : (b : Bool) → (b || true) ≡ true
+    or-true true = refl
+    or-true false = refl
+
+apart : (l : List Bytes) → distinct l ≡ true → (i j : ℕ) → i < j → j < length l → getD l i [] ≡ getD l j [] → ⊥
+unfolding distinct
+apart [] d i j h l e = omega arith
+apart (x ∷ l) d i zero h m e = omega arith
+apart (x ∷ l) d zero (suc j) h m e =
+    let a : not (among x l) ≡ true = both (not (among x l)) (distinct l) d .0 in
+    let b : not (among x l) ≡ false = ap not (among-at x l j (omega arith) e) in
+    let z : _≡_ {A = ℕ} 0 1 = cc in omega arith
+apart (x ∷ l) d (suc i) (suc j) h m e = apart l (both (not (among x l)) (distinct l) d .1) i j (omega arith) (omega arith) e
+
+member-of : (x : Bytes) (l : List Bytes) → among x l ≡ true → List·Memᴰ x l
+unfolding among
+member-of x [] e = let z : _≡_ {A = ℕ} 0 1 = cc in let o : ⊥ = omega arith in absurd o
+member-of x (y ∷ l) e = go (same x y) refl e (member-of x l)
+  where
+    go : (t : Bool) → same x y ≡ t → (t || among x l) ≡ true → (among x l ≡ true → List·Memᴰ x l) → List·Memᴰ x (y ∷ l)
+    go true f e rest = List·Memᴰ·head (same-eq x y f)
+    go false f e rest = List·Memᴰ·tail (rest e)
+
+-- an input that was MACed, under distinct chaining values, breaks nothing
+sound : (C : Ciphers) (key : Bytes) (sent : List Bytes) (input mac : Bytes) → MacBreak C key sent input mac
+    → among input sent ≡ true → distinct (chainingValues C key sent) ≡ true → ⊥
+sound C key sent input mac b m d =
+    elim (b .cause) [ inl new ↦ new (member-of input sent m) | inr c ↦ apart (chainingValues C key sent) d (c .i) (c .j) (c .i<j) (c .within) (c .equal) ]
+
+-- ---- runs with a MAC that is always zeros, one for each part of the claim
+
+forged : Command → Bytes
+forged m = commandField (toyEncrypt [] (commandCounter 1) (m .payload)) (m .header .le) (zeros 8)
+
+received-as : Command → Command → Call
+received-as m n = unwrapCommand Card (n .header .ins) (n .header .p1) (n .header .p2) (forged m) 3000
+
+-- VERIFY with another P2, and with other data
+other-header : Command
+other-header = record { header = record { ins = 0x20; p1 = 0x00; p2 = 0x80; le = false }; payload = 0x36 ∷ 0x35 ∷ 0x31 ∷ [] }
+
+other-data : Command
+other-data = record { header = record { ins = 0x20; p1 = 0x00; p2 = 0x98; le = false }; payload = 0x31 ∷ [] }
+
+-- GENERAL AUTHENTICATE without Le, and with it
+authenticate : Command
+authenticate = record { header = record { ins = 0x87; p1 = 0x07; p2 = 0x9E; le = false }; payload = 0x7C ∷ [] }
+
+with-le : Command
+with-le = record { header = record { ins = 0x87; p1 = 0x07; p2 = 0x9E; le = true }; payload = 0x7C ∷ [] }
+
+more-commands : List Call
+more-commands = received-as verify verify ∷ []
+
+more-responses : List Call
+more-responses = wrapCommand Host verify 3000 ∷ unwrapResponse Host (okay .header) (responseField [] 0x90 0x00 (zeros 8)) 3000 ∷ []
+
+header-changed : List Call
+header-changed = wrapCommand Host verify 3000 ∷ received-as verify other-header ∷ []
+
+data-changed : List Call
+data-changed = wrapCommand Host verify 3000 ∷ received-as other-data verify ∷ []
+
+le-changed : List Call
+le-changed = wrapCommand Host authenticate 3000 ∷ received-as with-le authenticate ∷ []
+
+status-changed : List Call
+status-changed =
+    wrapCommand Host verify 3000 ∷ received-as verify verify ∷ wrapResponse Card okay 3000
+    ∷ unwrapResponse Host (record { sw1 = 0x6A; sw2 = 0x82 }) (responseField [] 0x6A 0x82 (zeros 8)) 3000 ∷ []
+
+-- one command wrapped, and no more
+one-wrapped : List Call
+one-wrapped = wrapCommand Host verify 3000 ∷ []
+
+-- with the keys known, a command that was never wrapped: its MAC is right
+never-wrapped : List Call
+never-wrapped =
+    let c = toyEncrypt [] (commandCounter 1) (verify .payload) in
+    let full = toyMac (keys .mac) (commandInput (zeros 16) (verify .header) (commandObjects c false)) in
+    unwrapCommand Card 0x20 0x00 0x98 (commandField c false (take 8 full)) 3000 ∷ []
+
+-- a VERIFY without data, accepted twice: under the constant MAC the second input is the first
+check : Command
+check = record { header = record { ins = 0x20; p1 = 0x00; p2 = 0x98; le = false }; payload = [] }
+
+repeated : List Call
+repeated = wrapCommand Host check 3000 ∷ received-as check check ∷ wrapResponse Card okay 3000 ∷ received-as check check ∷ []
+
+-- a response whose MAC was changed
+mac-changed : List Call
+mac-changed =
+    wrapCommand Host check 3000
+    ∷ unwrapCommand Card 0x20 0x00 0x98 (fieldOf (hostWraps toy (begin .host) check 3000 .answer)) 3000
+    ∷ wrapResponse Card okay 3000
+    ∷ unwrapResponse Host (okay .header) (responseField [] 0x90 0x00 (zeros 8)) 3000 ∷ []
+
+-- a VERIFY without data, its response, the same response again, and an exchange
+response-again : List Call
+response-again =
+    let first = exchange toy begin check okay in
+    let st = run toy keys begin (take 2 first) in
+    let again = unwrapResponse Host (okay .header) (fieldOf (cardWraps toy (st .card) okay 20000 .answer)) 20000 ∷ [] in
+    first ++ again ++ exchange toy (run toy keys begin (first ++ again)) verify okay
+
+-- the same, then calls at the wrong end, both closings, and a call after them
+mixed : List Call
+mixed =
+    response-again ++ wrapCommand Card verify 3000 ∷ unwrapResponse Card (okay .header) [] 0 ∷ close Host ∷ close Card ∷ wrapCommand Host verify 3000 ∷ []
+
+allBytes : Bytes → Bool
+allBytes [] = true
+allBytes (b ∷ bs) = ltb b 256 && allBytes bs
+
+are-bytes : (xs : Bytes) → allBytes xs ≡ true → IsBytes xs
+unfolding allBytes
+are-bytes [] e = bytes-nil
+are-bytes (b ∷ bs) e = let h = both (ltb b 256) (allBytes bs) e in bytes-cons b bs (ltb-true b 256 (h .0)) (are-bytes bs (h .1))
+
+-- a certificate under another's status, with the constant MAC
+response-data-changed : List Call
+response-data-changed =
+    wrapCommand Host check 3000 ∷ received-as check check ∷ wrapResponse Card okay 3000
+    ∷ unwrapResponse Host (okay .header) (responseField (toyEncrypt [] (responseCounter 1) (0x07 ∷ [])) 0x90 0x00 (zeros 8)) 3000 ∷ []
+
+-- transcripts that no run leads to
+entry : Entry CommandHeader
+entry = record { message = check; input = [] }
+
+reply : Entry StatusWord
+reply = record { message = okay; input = [] }
+
+two-outstanding : Transcript
+two-outstanding =
+    record { commandsWrapped = entry ∷ entry ∷ []; commandFields = []; commandsAccepted = []; responsesWrapped = []; responseFields = []; responsesAccepted = [] }
+
+answer-to-nothing : Transcript
+answer-to-nothing =
+    record { commandsWrapped = entry ∷ []; commandFields = []; commandsAccepted = []; responsesWrapped = reply ∷ []; responseFields = []; responsesAccepted = [] }
+
+-- one wrapped, and no bytes handed out for it
+field-lost : Transcript
+field-lost =
+    record { commandsWrapped = entry ∷ []; commandFields = [] ∷ []; commandsAccepted = []; responsesWrapped = []; responseFields = []; responsesAccepted = [] }
+
+response-field-lost : Transcript
+response-field-lost =
+    record { commandsWrapped = entry ∷ []; commandFields = []; commandsAccepted = entry ∷ []; responsesWrapped = reply ∷ []; responseFields = [] ∷ []; responsesAccepted = [] }
+
+-- the data's length of the first response
+dataOf : List Response → ℕ
+dataOf [] = 0
+dataOf (m ∷ ms) = length (m .payload)
+
+abbrev Broken : List Call → Type 0
+Broken calls = Agrees flat keys (run flat keys begin calls .transcript) → ⊥
+
+-- of the first message: P2, the data's length, whether Le is there; and SW1
+p2Of : List Command → ℕ
+p2Of [] = 0
+p2Of (m ∷ ms) = m .header .p2
+
+sizeOf : List Command → ℕ
+sizeOf [] = 0
+sizeOf (m ∷ ms) = length (m .payload)
+
+leOf : List Command → ℕ
+leOf [] = 0
+leOf (m ∷ ms) = if m .header .le then 1 else 0
+
+sw1Of : List Response → ℕ
+sw1Of [] = 0
+sw1Of (m ∷ ms) = m .header .sw1
+
+-- ---- computed
+
+record Computed : Type 0 where
+  counted : counts (run toy keys begin (two toy) .transcript) ≡ 2 ∷ 2 ∷ 2 ∷ 2 ∷ []
+  commands-given : messages (run toy keys begin (two toy) .transcript .commandsAccepted) ≡ verify ∷ getData ∷ []
+  responses-given : messages (run toy keys begin (two toy) .transcript .responsesAccepted) ≡ okay ∷ certificate ∷ []
+  not-excepted : Excepted toy keys begin (two toy) → ⊥
+  -- a above w, r above s, and each part of a message
+  a-above-w : Broken more-commands
+  r-above-s : Broken more-responses
+  header-differs : Broken header-changed
+  data-differs : Broken data-changed
+  le-differs : Broken le-changed
+  status-differs : Broken status-changed
+  response-data-differs : Broken response-data-changed
+  -- the constant MAC accepts a command twice, which only equal chaining values except
+  repeated-differs : Broken repeated
+  at-most-one-outstanding : Agrees toy keys two-outstanding → ⊥
+  no-answer-to-nothing : Agrees toy keys answer-to-nothing → ⊥
+  -- what was handed out is the field
+  field-differs : Agrees toy keys field-lost → ⊥
+  response-field-differs : Agrees toy keys response-field-lost → ⊥
+  -- eight wrong bytes break nothing
+  wrong-mac : MacBreak toy (keys .mac) [] [] (zeros 8) → ⊥
+  -- a wrong MAC is refused; a repeated response is, and what follows is accepted
+  mac-refused : counts (run toy keys begin mac-changed .transcript) ≡ 1 ∷ 1 ∷ 1 ∷ 0 ∷ []
+  repetition-refused : counts (run toy keys begin response-again .transcript) ≡ 2 ∷ 2 ∷ 2 ∷ 2 ∷ []
+  mixed-not-excepted : Excepted toy keys begin mixed → ⊥
+  mixed-counted : counts (run toy keys begin mixed .transcript) ≡ 2 ∷ 2 ∷ 2 ∷ 2 ∷ []
+  mixed-agrees : Agrees toy keys (run toy keys begin mixed .transcript)
+  -- w above r, and the two causes of an exception
+  w-above-r : Agrees toy keys (run toy keys begin one-wrapped .transcript)
+  new-input : Excepted toy keys begin never-wrapped
+  same-chaining-value : Excepted flat keys begin repeated
+
+computed : Computed
+unfolding toyMac xorAll toyEncrypt toyDecrypt toy keys verify getData okay certificate fieldOf begin exchange two counts same padding pad paddedLength marked markBefore unpad lengthField readLength isShortest rank allowed rightSize rightSecond rightValue need_else_⨾_ withLength readObject notedObject ended onObject walk readField object encryptedData leObject statusWord macObject commandObjects responseObjects commandField responseField ciphertextLength encryptedDataLength commandLength responseLength encodedHeader commandMacInput responseMacInput allZero keysEnd keysZero mcvsZero keepsPhase valid countsAsOpen isTurn keysFit openSuite opening dataIn insPermitted leNeed dataNeed commandPermitted statusPermitted commandWanted responseWanted bigEndian commandCounter responseCounter require_else_⨾_ _and-then_ afterRefusal concluded objectsOf textOf commandInput wrapCommandChecks unwrapCommandChecks commandMac commandCiphertext commandWrapped commandAccepted hostWraps openCommand cardUnwraps wrapResponseChecks unwrapResponseChecks responseMac responseCiphertext responseWrapped responseAccepted cardWraps openResponse hostUnwraps lastMac chaining encrypted wrapped received acceptedCommand acceptedResponse noted entered moved does step run flat among distinct chainingValues forged received-as other-header other-data authenticate with-le more-commands more-responses header-changed data-changed le-changed status-changed one-wrapped never-wrapped check repeated mac-changed response-again mixed allBytes response-data-changed entry reply two-outstanding answer-to-nothing field-lost response-field-lost dataOf p2Of sizeOf leOf sw1Of
+computed =
+    record {
+      counted = refl;
+      commands-given = refl;
+      responses-given = refl;
+      not-excepted = never;
+      a-above-w = λ v. let h = v .a≤w in omega (arith, h);
+      r-above-s = λ v. let h = v .r≤s in omega (arith, h);
+      header-differs = λ v. let e : _≡_ {A = ℕ} 0x80 0x98 = ap p2Of (v .commandsAgree) in omega (arith, e);
+      data-differs = λ v. let e : _≡_ {A = ℕ} 1 3 = ap sizeOf (v .commandsAgree) in omega (arith, e);
+      le-differs = λ v. let e : _≡_ {A = ℕ} 1 0 = ap leOf (v .commandsAgree) in omega (arith, e);
+      status-differs = λ v. let e : _≡_ {A = ℕ} 0x6A 0x90 = ap sw1Of (v .responsesAgree) in omega (arith, e);
+      response-data-differs = λ v. let e : _≡_ {A = ℕ} 1 0 = ap dataOf (v .responsesAgree) in omega (arith, e);
+      repeated-differs = λ v. let h = v .a≤w in omega (arith, h);
+      at-most-one-outstanding = λ v. let h = v .w≤r+1 in omega (arith, h);
+      no-answer-to-nothing = λ v. let h = v .s≤a in omega (arith, h);
+      field-differs = λ v. let e : _≡_ {A = ℕ} 0 10 = ap length (v .commandsWritten .0) in omega (arith, e);
+      response-field-differs = λ v. let e : _≡_ {A = ℕ} 0 14 = ap length (v .responsesWritten .0) in omega (arith, e);
+      wrong-mac = λ b. let e = ap (λ (l : Bytes). getD l 0 0) (b .right) in omega (arith, e);
+      mac-refused = refl;
+      repetition-refused = refl;
+      mixed-not-excepted = not-mixed;
+      mixed-counted = refl;
+      mixed-agrees = held;
+      w-above-r =
+          record {
+            r≤s = omega arith;
+            s≤a = omega arith;
+            a≤w = omega arith;
+            w≤r+1 = omega arith;
+            commandsAgree = refl;
+            responsesAgree = refl;
+            commandsWritten = (refl, tt);
+            responsesWritten = tt;
+          };
+      new-input = inl (record { right = refl; cause = inl (λ m. List·Memᴰ·not-nil m) });
+      same-chaining-value = inr (inr (inr (inl (record { right = refl; cause = inr (record { i = 0; j = 1; i<j = omega arith; within = omega arith; equal = refl }) }))));
+    }
+  where
+    never : Excepted toy keys begin (two toy) → ⊥
+    never (inl x) = x
+    never (inr (inl b)) = sound toy (keys .mac) _ _ _ b refl refl
+    never (inr (inr (inl x))) = x
+    never (inr (inr (inr (inl b)))) = sound toy (keys .rmac) _ _ _ b refl refl
+    never (inr (inr (inr (inr (inl x))))) = x
+    never (inr (inr (inr (inr (inr (inl b)))))) = sound toy (keys .mac) _ _ _ b refl refl
+    never (inr (inr (inr (inr (inr (inr (inl x))))))) = x
+    never (inr (inr (inr (inr (inr (inr (inr (inl b)))))))) = sound toy (keys .rmac) _ _ _ b refl refl
+    never (inr (inr (inr (inr (inr (inr (inr (inr x)))))))) = x
+
+    not-mixed : Excepted toy keys begin mixed → ⊥
+    not-mixed (inl x) = x
+    not-mixed (inr (inl b)) = sound toy (keys .mac) _ _ _ b refl refl
+    not-mixed (inr (inr (inl x))) = x
+    not-mixed (inr (inr (inr (inl b)))) = sound toy (keys .rmac) _ _ _ b refl refl
+    not-mixed (inr (inr (inr (inr (inl x))))) = x
+    not-mixed (inr (inr (inr (inr (inr (inl x)))))) = x
+    not-mixed (inr (inr (inr (inr (inr (inr (inl b))))))) = sound toy (keys .mac) _ _ _ b refl refl
+    not-mixed (inr (inr (inr (inr (inr (inr (inr (inl x)))))))) = x
+    not-mixed (inr (inr (inr (inr (inr (inr (inr (inr (inl b))))))))) = sound toy (keys .rmac) _ _ _ b refl refl
+    not-mixed (inr (inr (inr (inr (inr (inr (inr (inr (inr (inl x)))))))))) = x
+    not-mixed (inr (inr (inr (inr (inr (inr (inr (inr (inr (inr (inl x))))))))))) = x
+    not-mixed (inr (inr (inr (inr (inr (inr (inr (inr (inr (inr (inr (inl x)))))))))))) = x
+    not-mixed (inr (inr (inr (inr (inr (inr (inr (inr (inr (inr (inr (inr (inl x))))))))))))) = x
+    not-mixed (inr (inr (inr (inr (inr (inr (inr (inr (inr (inr (inr (inr (inr (inl x)))))))))))))) = x
+    not-mixed (inr (inr (inr (inr (inr (inr (inr (inr (inr (inr (inr (inr (inr (inr x)))))))))))))) = x
+
+    sent : AllBytes mixed
+    sent = (are-bytes [] refl, (tt, (are-bytes [] refl, (tt, (tt, (are-bytes (verify .payload) refl, (tt, (are-bytes [] refl, (tt, (are-bytes (verify .payload) refl, (tt, (tt, (tt, (are-bytes (verify .payload) refl, tt))))))))))))))
+
+    held : Agrees toy keys (run toy keys begin mixed .transcript)
+    held =
+        elim (agreement toy toy-laws 2 2 keys (record { enc = are-bytes (keys .enc) refl; mac = are-bytes (keys .mac) refl; rmac = are-bytes (keys .rmac) refl }) refl refl mixed sent 14)
+        [ inl a ↦ a | inr e ↦ absurd (not-mixed e) ]

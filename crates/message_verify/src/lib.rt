@@ -1,0 +1,49 @@
+// The data of a field whose objects are known: there is room for it, then its MAC is right, then its padding, and only then it is written to the
+// caller's buffer (document 01: refusals 6, 9 and 10).
+use field_padding::Unpadded;
+use field_walk::Objects;
+use message_decrypt::decrypt_text;
+use message_mac_compare::mac_matches;
+use message_mac_truncated::truncated;
+use refusal::Refusal;
+use session_suite::Suite;
+ghost use mathlib.Core.Path.{_≡_};
+ghost use lib.ListN.{length};
+ghost use Rattle.session_stored_keys.specs.StoredKeys.{keyIn};
+ghost use Rattle.message_answer.specs.Answer.{buffer};
+ghost use Rattle.message_verify.specs.VerifiedText.{StandIn, verified, verifiedText};
+
+pub enum Verified {
+    // The length of the data that stands in the caller's buffer.
+    Data(usize),
+    Refused(Refusal),
+}
+
+// Of a field whose full MAC should be that one.
+pub fn verified_text(
+    suite: Suite,
+    sk_enc: [u8; 32],
+    counter: [u8; 16],
+    full: [u8; 16],
+    field: &[u8],
+    objects: Objects,
+    out: &mut [u8],
+) -> Verified
+    requires { ⌜ StandIn (now field) objects ⌝ }
+    ensures answer { λ r. ⌜ r ≡ verified (verifiedText (keyIn suite «sk_enc») counter full (now (field .entry)) (length (now (out .entry))) objects) ⌝ }
+    ensures output { λ _. ⌜ now (out .exit) ≡ buffer (λ d. d) (now (out .entry)) (verifiedText (keyIn suite «sk_enc») counter full (now (field .entry)) (length (now (out .entry))) objects) ⌝ }
+{
+    let start = objects.ciphertext;
+    let needed = objects.ciphertext_len;
+    if needed > out.len() {
+        return Verified::Refused(Refusal::BufferTooSmall(needed));
+    }
+    if !mac_matches(field, objects.mac, truncated(full)) {
+        return Verified::Refused(Refusal::BadMac);
+    }
+    let text = decrypt_text(suite, sk_enc, counter, field, start, needed, out);
+    let Unpadded::Data(n) = text else {
+        return Verified::Refused(Refusal::BadPadding);
+    };
+    Verified::Data(n)
+}

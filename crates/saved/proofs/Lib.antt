@@ -1,4 +1,0 @@
-pub mod SavedParts
-pub mod DecodeEncode
-pub mod EncodeDecode
-pub mod SavedExamples

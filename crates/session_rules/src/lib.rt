@@ -1,0 +1,73 @@
+// Whether a session value keeps the rules of document 01, "The saved session": one that breaks them counts as closed.
+use session::Phase;
+use session::Session;
+use session_zeros::all_zero;
+use session_zeros::keys_end;
+use session_zeros::keys_zero;
+use session_zeros::mcvs_zero;
+ghost use mathlib.Core.Path.{_≡_};
+ghost use Rattle.session_rules.specs.Valid.{keepsPhase, valid, countsAsOpen};
+
+fn keeps_ready(session: Session) -> bool
+    ensures { λ keeps. ⌜ keeps ≡ keepsPhase session Phase.Ready ⌝ }
+{
+    if keys_end(session) {
+        if session.count == 0 {
+            return mcvs_zero(session);
+        }
+        return true;
+    }
+    false
+}
+
+fn keeps_pending(session: Session) -> bool
+    ensures { λ keeps. ⌜ keeps ≡ keepsPhase session Phase.Pending ⌝ }
+{
+    let response_mcv = session.response_mcv;
+    if keys_end(session) {
+        if session.count >= 1 {
+            if session.count == 1 {
+                return all_zero(&response_mcv);
+            }
+            return true;
+        }
+    }
+    false
+}
+
+fn keeps_closed(session: Session) -> bool
+    ensures { λ keeps. ⌜ keeps ≡ keepsPhase session Phase.Closed ⌝ }
+{
+    if session.count == 0 {
+        if keys_zero(session) {
+            return mcvs_zero(session);
+        }
+    }
+    false
+}
+
+pub fn valid(session: Session) -> bool
+    ensures { λ keeps. ⌜ keeps ≡ valid session ⌝ }
+{
+    let phase = session.phase;
+    if session.count > Session::COMMAND_LIMIT {
+        return false;
+    }
+    match phase {
+        Phase::Ready => keeps_ready(session),
+        Phase::Pending => keeps_pending(session),
+        Phase::Closed => keeps_closed(session),
+    }
+}
+
+// Whether calls are served with this session.
+pub fn counts_as_open(session: Session) -> bool
+    ensures { λ serves. ⌜ serves ≡ countsAsOpen session ⌝ }
+{
+    let phase = session.phase;
+    match phase {
+        Phase::Ready => valid(session),
+        Phase::Pending => valid(session),
+        Phase::Closed => false,
+    }
+}
