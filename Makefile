@@ -20,7 +20,7 @@ export TMPDIR := $(shell t=/dev/shm/make.$$$$; { cp /bin/true $$t && $$t && test
 # The crates that export the calls of c/pivsm.h, and those of c/primitives.h.
 exporting = $(patsubst crates/%/src/lib.rt,%,$(shell grep -l 'pub extern "C" fn' $(1)))
 CALLS = $(call exporting,crates/capi_*/src/lib.rt)
-PRIMITIVES = $(call exporting,crates/primitive_*/src/lib.rt)
+PRIMITIVES = $(call exporting,crates/primitives*/src/lib.rt)
 # Programs whose output stands in c/NAME.stdout; that of exchange_calls is exchange's.
 PRINTED = example exchange exchange_calls boundary_cases
 DIFFERENTIAL = $(filter-out %/vectors.c,$(wildcard c/differential/*.c)) c/reference.c
