@@ -1,6 +1,6 @@
 // Closing a session, for programs in C (c/pivsm.h), on its bytes.
-use capi_session_held::replace_session;
-use capi_session_held::session_in;
+use capi_session::replace_session;
+use capi_session::session_in;
 use session_bytes::Decoding;
 ghost use mathlib.Core.Path.{_≡_};
 ghost use Rattle.octets.specs.Bytes.{IsBytes};

@@ -4,7 +4,7 @@ use Rattle.octets.specs.Bytes.{Bytes}
 use Rattle.message_answer.specs.Answer.{Answer}
 use Rattle.chain_command.specs.Apdu.{header}
 use Rattle.chain_command.specs.Fragment.{fragmentCommand, fragmentAnswer}
-use Rattle.capi_values_chaining.specs.ChainingValues.{fragmentValues}
+use Rattle.capi_values.specs.ChainingValues.{fragmentValues}
 use Rattle.capi_values.specs.declared.Values.{Values}
 
 abbrev pub fragmentOf : ℕ → ℕ → ℕ → Bytes → ℕ → ℕ → ℕ → Answer Bytes

@@ -1,5 +1,5 @@
 // Fragmenting a command, for programs in C (c/pivsm.h).
-use capi_values_command::fragment_values;
+use capi_values::fragment_values;
 use chain_fragment_command::fragment_command;
 ghost use mathlib.Core.Path.{_≡_};
 ghost use lib.ListN.{length};

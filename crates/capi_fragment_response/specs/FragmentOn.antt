@@ -4,7 +4,7 @@ use Rattle.octets.specs.Bytes.{Bytes}
 use Rattle.message_answer.specs.Message.{status}
 use Rattle.message_answer.specs.Answer.{Answer}
 use Rattle.chain_response.specs.Fragment.{next, fragmentResponse, fragmentAnswer}
-use Rattle.capi_values_chaining.specs.ChainingValues.{responseFragmentValues}
+use Rattle.capi_values.specs.ChainingValues.{responseFragmentValues}
 use Rattle.capi_values.specs.declared.Values.{Values}
 
 -- sw: the status word, SW1 * 256 + SW2

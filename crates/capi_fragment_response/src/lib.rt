@@ -1,5 +1,5 @@
 // Fragmenting a response, for programs in C (c/pivsm.h).
-use capi_values_response::response_fragment_values;
+use capi_values::response_fragment_values;
 use chain_fragment_response::fragment_response;
 ghost use mathlib.Core.Path.{_≡_};
 ghost use lib.ListN.{length};

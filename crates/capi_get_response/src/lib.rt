@@ -1,5 +1,5 @@
 // GET RESPONSE, for programs in C (c/pivsm.h).
-use chain_reassemble_response_chain::get_response;
+use chain_reassemble_response::get_response;
 use octets::put_bytes;
 ghost use mathlib.Core.Path.{_≡_};
 ghost use lib.ListN.{length};

@@ -1,1 +1,2 @@
 pub mod ReassembleOn
+pub mod ChainNumbers

@@ -1,13 +1,13 @@
 // Reassembling a command, for programs in C (c/pivsm.h).
-use capi_chain_numbers::chain_number;
-use capi_chain_numbers::chain_of;
-use capi_values_command::reassembly_values;
+use capi_values::reassembly_values;
+use chain_command::CommandChain;
 use chain_reassemble_command::reassemble_command;
 ghost use mathlib.Core.Path.{_≡_};
 ghost use lib.ListN.{length};
+ghost use Prim.Native.Nat.{_≤_};
 ghost use Rattle.chain_command.specs.Reassembly.{reassemblyBuffer};
-ghost use Rattle.capi_values_chaining.specs.ChainingValues.{reassemblyValues};
-ghost use Rattle.capi_chain_numbers.specs.ChainNumbers.{chainNumber, chainOf};
+ghost use Rattle.capi_values.specs.ChainingValues.{reassemblyValues};
+ghost use Rattle.capi_reassemble_command.specs.ChainNumbers.{chainNumber, chainOf};
 ghost use Rattle.capi_reassemble_command.specs.ReassembleOn.{reassembleOn};
 
 // Refusals 7, 14, 4 and 6.
@@ -43,4 +43,31 @@ pub extern "C" fn pivsm_reassemble_command(
     *p1 = values.p1;
     *p2 = values.p2;
     values.number
+}
+
+// ---- A chain of command fragments as one number, for programs in C (c/pivsm.h).
+
+fn chain_of(n: u64) -> CommandChain
+    ensures { λ chain. ⌜ chain ≡ chainOf n ⌝ }
+{
+    CommandChain {
+        len: (n / 16777216) as usize,
+        ins: (n / 65536 % 256) as u8,
+        p1: (n / 256 % 256) as u8,
+        p2: (n % 256) as u8,
+    }
+}
+
+fn wide(b: u8) -> u64
+    ensures { λ n. ⌜ n ≡ b ⌝ }
+{
+    b as u64
+}
+
+fn chain_number(chain: CommandChain) -> u64
+    requires { ⌜ chain .len ≤ 2066 ⌝ }
+    ensures { λ n. ⌜ n ≡ chainNumber chain ⌝ }
+{
+    let len = chain.len as u64;
+    len * 16777216 + wide(chain.ins) * 65536 + wide(chain.p1) * 256 + wide(chain.p2)
 }

@@ -1,11 +1,11 @@
 // Reassembling a response, for programs in C (c/pivsm.h).
-use capi_values_response::response_reassembly_values;
+use capi_values::response_reassembly_values;
 use chain_reassemble_response::reassemble_response;
 use chain_response::ResponseChain;
 ghost use mathlib.Core.Path.{_≡_};
 ghost use lib.ListN.{length};
 ghost use Rattle.chain_response.specs.Reassembly.{chain as chainOf, reassemblyBuffer};
-ghost use Rattle.capi_values_chaining.specs.ChainingValues.{responseReassemblyValues};
+ghost use Rattle.capi_values.specs.ChainingValues.{responseReassemblyValues};
 ghost use Rattle.capi_reassemble_response.specs.ReassembleOn.{reassembleOn};
 
 // Refusals 7, 14, 4 and 6.

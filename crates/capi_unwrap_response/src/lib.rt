@@ -1,6 +1,6 @@
 // The host unwraps a response, for programs in C (c/pivsm.h), on the bytes of a session.
-use capi_session_held::replace_session;
-use capi_session_held::session_in;
+use capi_session::replace_session;
+use capi_session::session_in;
 use capi_values::refusal_values;
 use capi_values::response_values;
 use message_unwrap_response::unwrap_response;

@@ -1,1 +1,2 @@
 pub mod ValueExamples
+pub mod ChainingValueExamples

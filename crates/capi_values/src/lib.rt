@@ -1,4 +1,8 @@
 // The number and the values of each call's answer (document 01, "The numbered answers"), as the calls from C give them.
+use chain_command::FragmentAnswer;
+use chain_command::ReassemblyAnswer;
+use chain_response::ResponseFragmentAnswer;
+use chain_response::ResponseReassemblyAnswer;
 use message_result::CommandAnswer;
 use message_result::ResponseAnswer;
 use message_result::WrapAnswer;
@@ -6,6 +10,7 @@ use refusal::Refusal;
 use refusal::status_word;
 ghost use mathlib.Core.Path.{_≡_};
 ghost use Rattle.capi_values.specs.Values.{given, refusalValues, wrapValues, commandValues, responseValues};
+ghost use Rattle.capi_values.specs.ChainingValues.{fragmentValues, reassemblyValues, responseFragmentValues, responseReassemblyValues};
 
 // 0 and false where an answer has no such value.
 pub struct Values {
@@ -26,7 +31,7 @@ pub struct Values {
 }
 
 // No Le, no header and no next index.
-pub fn given(number: u32, len: usize, status: u16) -> Values
+fn given(number: u32, len: usize, status: u16) -> Values
     ensures { λ values. ⌜ values ≡ given number len status ⌝ }
 {
     Values {
@@ -83,5 +88,65 @@ pub fn response_values(answer: ResponseAnswer) -> Values
     match answer {
         ResponseAnswer::Accepted(n, sw1, sw2) => given(0, n, status_word(sw1, sw2)),
         ResponseAnswer::Refused(refusal) => refusal_values(refusal),
+    }
+}
+
+// ---- The numbers that the answers of command chaining are given as in C (c/pivsm.h).
+
+pub fn fragment_values(answer: FragmentAnswer) -> Values
+    ensures { λ values. ⌜ values ≡ fragmentValues answer ⌝ }
+{
+    match answer {
+        FragmentAnswer::Fragment(n) => given(0, n, 0),
+        FragmentAnswer::Refused(refusal) => refusal_values(refusal),
+    }
+}
+
+pub fn reassembly_values(answer: ReassemblyAnswer) -> Values
+    ensures { λ values. ⌜ values ≡ reassemblyValues answer ⌝ }
+{
+    match answer {
+        ReassemblyAnswer::More(n, sw1, sw2) => given(0, n, status_word(sw1, sw2)),
+        ReassemblyAnswer::Whole(n, ins, p1, p2) => Values {
+            number: 0,
+            len: n,
+            status: 0,
+            le: false,
+            ins,
+            p1,
+            p2,
+            next: 0,
+        },
+        ReassemblyAnswer::Refused(refusal) => refusal_values(refusal),
+    }
+}
+
+// ---- The numbers that the answers of response chaining are given as in C (c/pivsm.h).
+
+pub fn response_fragment_values(answer: ResponseFragmentAnswer) -> Values
+    ensures { λ values. ⌜ values ≡ responseFragmentValues answer ⌝ }
+{
+    match answer {
+        ResponseFragmentAnswer::Fragment(n, next) => Values {
+            number: 0,
+            len: n,
+            status: 0,
+            le: false,
+            ins: 0,
+            p1: 0,
+            p2: 0,
+            next,
+        },
+        ResponseFragmentAnswer::Refused(refusal) => refusal_values(refusal),
+    }
+}
+
+pub fn response_reassembly_values(answer: ResponseReassemblyAnswer) -> Values
+    ensures { λ values. ⌜ values ≡ responseReassemblyValues answer ⌝ }
+{
+    match answer {
+        ResponseReassemblyAnswer::More(n, le) => given(0, n, status_word(0x61, le)),
+        ResponseReassemblyAnswer::Whole(n, sw1, sw2) => given(0, n, status_word(sw1, sw2)),
+        ResponseReassemblyAnswer::Refused(refusal) => refusal_values(refusal),
     }
 }

@@ -1,6 +1,6 @@
 // The APDU of a command fragment, written into the caller's buffer (document 01, "The wire"; SP 800-73-4 Part 2, 4.2.4).
+use octets::put_byte;
 use octets::put_bytes;
-use octets_writes::put_byte;
 ghost use Prim.Native.Nat.{_+_, _≤_};
 ghost use lib.ListN.{length};
 ghost use Rattle.octets.specs.Write.{Wrote};

@@ -1,8 +1,10 @@
 // The card fragments a response field: one fragment with its status word a call (document 01, "The wire"; ISO/IEC 7816-4).
-use chain_fragment_response_checks::fragment_checks;
+mod checks;
+
 use chain_response::ResponseFragmentAnswer;
 use chain_response_parts::next;
 use chain_response_parts::put_status;
+use checks::fragment_checks;
 use octets::put_bytes;
 ghost use mathlib.Core.Path.{_≡_};
 ghost use mathlib.Core.List.{_++_};

@@ -4,8 +4,6 @@ use chain_apdu_read::lc;
 use chain_command::CommandChain;
 use chain_command::Reassembly;
 use chain_command::ReassemblyAnswer;
-use chain_reassemble_command_chain::empty_chain;
-use chain_reassemble_command_chain::taken;
 use chain_reassemble_command_checks::reassembly_checks;
 use message_result::Checked;
 use octets::put_bytes;
@@ -13,7 +11,7 @@ ghost use mathlib.Core.Path.{_≡_};
 ghost use Prim.Native.Nat.{_+_, _≤_};
 ghost use lib.ListN.{length};
 ghost use Rattle.octets.specs.Write.{put};
-ghost use Rattle.chain_command.specs.Apdu.{headerOf, lc, dataOf, isLast};
+ghost use Rattle.chain_command.specs.Apdu.{headerOf, lc, dataOf, isLast, header};
 ghost use Rattle.chain_command.specs.Reassembly.{empty, total, taken, reassembleCommand, reassemblyBuffer};
 
 // The data of a fragment that passed its tests, behind what stands in the caller's buffer.
@@ -41,5 +39,42 @@ pub fn reassemble_command(chain: CommandChain, apdu: &[u8], out: &mut [u8]) -> R
             answer: ReassemblyAnswer::Refused(refusal),
             chain: empty,
         },
+    }
+}
+
+// ---- The chain of command fragments: empty, and after a fragment that is taken (document 01, "The wire").
+
+// What a caller starts with.
+fn empty_chain() -> CommandChain
+    ensures { λ chain. ⌜ chain ≡ empty ⌝ }
+{
+    CommandChain {
+        len: 0,
+        ins: 0,
+        p1: 0,
+        p2: 0,
+    }
+}
+
+// Of a fragment that is taken: the bytes so far, and whether it is the last.
+fn taken(ins: u8, p1: u8, p2: u8, n: usize, last: bool) -> Reassembly
+    ensures { λ r. ⌜ r ≡ taken (header ins p1 p2) n last ⌝ }
+{
+    let none = empty_chain();
+    let so_far = CommandChain {
+        len: n,
+        ins,
+        p1,
+        p2,
+    };
+    if last {
+        return Reassembly {
+            answer: ReassemblyAnswer::Whole(n, ins, p1, p2),
+            chain: none,
+        };
+    }
+    Reassembly {
+        answer: ReassemblyAnswer::More(n, 0x90, 0x00),
+        chain: so_far,
     }
 }

@@ -1,6 +1,4 @@
 // A response field is put together again from its fragments (document 01, "The wire").
-use chain_reassemble_response_chain::empty_chain;
-use chain_reassemble_response_chain::taken;
 use chain_reassemble_response_checks::is_more;
 use chain_reassemble_response_checks::reassembly_checks;
 use chain_response::ResponseChain;
@@ -12,7 +10,8 @@ ghost use mathlib.Core.Path.{_≡_};
 ghost use Prim.Native.Nat.{_≤_};
 ghost use lib.ListN.{length};
 ghost use Rattle.octets.specs.Write.{put};
-ghost use Rattle.chain_response.specs.Reassembly.{dataOf, statusOf, isMore, empty, total, taken, reassembleResponse, reassemblyBuffer};
+ghost use Rattle.chain_response.specs.Reassembly.{dataOf, statusOf, isMore, empty, total, taken, reassembleResponse, reassemblyBuffer, getResponse};
+ghost use Rattle.message_answer.specs.Message.{status};
 
 // The data of a fragment that passed its tests, behind what stands in the caller's buffer.
 fn take_fragment(chain: ResponseChain, bytes: &[u8], out: &mut [u8]) -> ResponseReassembly
@@ -39,5 +38,39 @@ pub fn reassemble_response(chain: ResponseChain, bytes: &[u8], out: &mut [u8]) -
             answer: ResponseReassemblyAnswer::Refused(refusal),
             chain: empty,
         },
+    }
+}
+
+// ---- The chain of response fragments: empty, after a fragment that is taken, and the GET RESPONSE that asks for the next (document 01, "The wire").
+
+// What a caller starts with.
+fn empty_chain() -> ResponseChain
+    ensures { λ chain. ⌜ chain ≡ empty ⌝ }
+{
+    ResponseChain { len: 0 }
+}
+
+// What to send next, with Le as the last fragment's status word gives it.
+pub fn get_response(le: u8) -> [u8; 5]
+    ensures { λ apdu. ⌜ apdu ≡ getResponse le ⌝ }
+{
+    [0x00, 0xC0, 0x00, 0x00, le]
+}
+
+// Of a fragment that is taken: the bytes so far, and whether more follow.
+fn taken(sw1: u8, sw2: u8, n: usize, more: bool) -> ResponseReassembly
+    ensures { λ r. ⌜ r ≡ taken (status sw1 sw2) n more ⌝ }
+{
+    let none = empty_chain();
+    let so_far = ResponseChain { len: n };
+    if more {
+        return ResponseReassembly {
+            answer: ResponseReassemblyAnswer::More(n, sw2),
+            chain: so_far,
+        };
+    }
+    ResponseReassembly {
+        answer: ResponseReassemblyAnswer::Whole(n, sw1, sw2),
+        chain: none,
     }
 }

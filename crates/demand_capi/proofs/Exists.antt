@@ -17,7 +17,7 @@ use Rattle.capi_wrap_command.proofs.pivsm_wrap_command.Kinds as wrap-command-ki
 use Rattle.capi_unwrap_command.proofs.pivsm_unwrap_command.Kinds as unwrap-command-kinds
 use Rattle.capi_wrap_response.proofs.pivsm_wrap_response.Kinds as wrap-response-kinds
 use Rattle.capi_unwrap_response.proofs.pivsm_unwrap_response.Kinds as unwrap-response-kinds
-use Rattle.capi_open_bytes.specs.OpenOn.{openOn, openGives}
+use Rattle.capi_open.specs.OpenOn.{openOn, openGives}
 use Rattle.capi_close.specs.CloseOn.{closeOn, closeValues}
 use Rattle.capi_wrap_command.specs.WrapOn.{wrapOn as wrapCommandOn, wrapGives as wrapCommandGives}
 use Rattle.capi_unwrap_command.specs.UnwrapOn.{unwrapOn as unwrapCommandOn, unwrapGives as unwrapCommandGives}

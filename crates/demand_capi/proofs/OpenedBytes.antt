@@ -27,7 +27,7 @@ use Rattle.session_bytes.specs.Saved.{encode}
 use Rattle.message_answer.specs.Answer.{Answer, refused, gave, require_else_⨾_, buffer}
 use Rattle.message_result.specs.Results.{wrapAnswer}
 use Rattle.capi_values.specs.Values.{wrapValues}
-use Rattle.capi_open_bytes.specs.OpenOn.{openedAs}
+use Rattle.capi_open.specs.OpenOn.{openedAs}
 use Rattle.demand_capi.proofs.SessionLengths.{Lengths}
 
 never : {P : Type 0} → _≡_ {A = ℕ} 0 1 → P

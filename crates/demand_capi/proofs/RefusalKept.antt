@@ -37,7 +37,7 @@ use Rattle.message_protocol.specs.Transcript.{does}
 use Rattle.message_protocol.proofs.Theorems.{demand1}
 use Rattle.message_result.specs.Results.{wrapAnswer, commandAnswer, responseAnswer}
 use Rattle.capi_values.specs.Values.{wrapValues, commandValues, responseValues}
-use Rattle.capi_open_bytes.specs.OpenOn.{openedAs, bytesOf, openOn}
+use Rattle.capi_open.specs.OpenOn.{openedAs, bytesOf, openOn}
 use Rattle.demand_capi.specs.Calls.{hostKeys, cardKeys, Event, wrapsCommand, unwrapsCommand, wrapsResponse, unwrapsResponse, closes, held, len, before, number, written, status, le, call}
 use Rattle.demand_capi.specs.RefusalKeeps.{RefusalKeeps, SixteenExactly, RestKeeps, Refuses, HostOpeningRefuses, CardOpeningRefuses}
 use Rattle.demand_capi.proofs.OpenServed.{hit, met}

@@ -25,7 +25,7 @@ use Rattle.message_answer.specs.Answer.{refused, Out}
 use Rattle.message_protocol.specs.Transcript.{Call, sideOf, Gives, does, Transcript, State, sessionAt, moved, entered, step, run, start}
 use Rattle.message_protocol.specs.Agreement.{Agrees, BreaksIn, Excepted as ExceptedRun, CallBytes, AllBytes}
 use Rattle.message_protocol.proofs.Theorems.{demand3}
-use Rattle.capi_open_bytes.specs.OpenOn.{openOn}
+use Rattle.capi_open.specs.OpenOn.{openOn}
 use Rattle.demand_capi.specs.Calls.{OpensHost, OpensCard, hostKeys, cardKeys, hostBytes, cardBytes, Event, wrapsCommand, unwrapsCommand, wrapsResponse, unwrapsResponse, closes, end, held, len, call, answer}
 use Rattle.demand_capi.specs.Agreement.{End, State as Ends, at, moved as movedEnd, after, ran, Trace, Excepted, Served, start as startEnds, Agreement, ExceptionNoWider}
 use Rattle.demand_capi.proofs.OpenedBytes.{IsOpened, opened-is, opening-lengths, left-by-opening}

@@ -24,7 +24,7 @@ use Rattle.chain_response.specs.declared.ResponseChain.{ResponseChain}
 use Rattle.chain_response.specs.declared.ResponseReassembly.{ResponseReassembly}
 use Rattle.chain_response.specs.declared.ResponseFragmentAnswer.the-variants.{Refused as ResponseNotFragmented}
 use Rattle.chain_response.specs.declared.ResponseReassemblyAnswer.the-variants.{Refused as ResponseNotReassembled}
-use Rattle.capi_values_chaining.specs.ChainingValues.{fragmentValues, reassemblyValues, responseFragmentValues, responseReassemblyValues}
+use Rattle.capi_values.specs.ChainingValues.{fragmentValues, reassemblyValues, responseFragmentValues, responseReassemblyValues}
 use Rattle.demand_chaining.specs.RefusalKeeps.{fragmentsCommand, reassemblesCommand, fragmentsResponse, reassemblesResponse, RefusalKeeps}
 
 -- ---- places in an order

@@ -7,7 +7,7 @@ use lib.ListN.{take, drop}
 use Rattle.octets.specs.Bytes.{Bytes}
 use Rattle.refusal.specs.Refusal.{number}
 use Rattle.refusal.specs.declared.Refusal.{Refusal}
-use Rattle.capi_values_chaining.specs.ChainingValues.{fragmentValues, reassemblyValues, responseFragmentValues, responseReassemblyValues}
+use Rattle.capi_values.specs.ChainingValues.{fragmentValues, reassemblyValues, responseFragmentValues, responseReassemblyValues}
 use Rattle.capi_values.specs.Values.{refusalValues}
 use Rattle.capi_values.specs.declared.Values.{Values}
 use Rattle.chain_command.specs.Reassembly.{empty as emptyCommand}

@@ -1,15 +1,16 @@
 // One data object of a field, read at an index (SP 800-73-4 Part 2, 4.2; document 01, "Objects, encryption and MAC").
 use field_ber_length::LengthRead;
 use field_ber_length::is_shortest;
-use field_ber_length_read::read_length;
+use field_ber_length::read_length;
 use field_expected::Wanted;
+use field_object_rules::right_size;
 use field_object_rules::right_value;
-use field_object_sizes::right_size;
 use field_order::allowed;
 ghost use mathlib.Core.Path.{_≡_};
 ghost use Prim.Native.Nat.{_<_};
 ghost use lib.ListN.{length};
 ghost use Rattle.field_object.specs.Object.{readObject};
+ghost use Rattle.field_object.specs.Step.{indexAfter, readStep};
 
 // The rule that a field breaks.
 pub enum Rule {
@@ -42,7 +43,7 @@ pub enum ObjectRead {
 }
 
 // The object at index `at`, after one at place `after` of the side's list.
-pub fn read_object(wanted: Wanted, after: usize, bytes: &[u8], at: usize) -> ObjectRead
+fn read_object(wanted: Wanted, after: usize, bytes: &[u8], at: usize) -> ObjectRead
     requires { ⌜ at < length (now bytes) ⌝ }
     ensures { λ r. ⌜ r ≡ readObject wanted after (now (bytes .entry)) at ⌝ }
 {
@@ -80,4 +81,32 @@ fn malformed(rule: Rule, tag: u8, offset: usize) -> ObjectRead
     ensures { λ r. ⌜ r ≡ ObjectRead.Malformed (record { rule = rule; tag = tag; offset = offset }) ⌝ }
 {
     ObjectRead::Malformed(Breach { rule, tag, offset })
+}
+
+// ---- One step of a reader of fields: what it reads, and its index then (document 01, "Objects, encryption and MAC").
+
+// What a reader read, and its index then.
+pub struct Step {
+    pub read: ObjectRead,
+    pub at: usize,
+}
+
+// Behind an object; a breach is not passed.
+fn index_after(read: ObjectRead, at: usize) -> usize
+    ensures { λ r. ⌜ r ≡ indexAfter read at ⌝ }
+{
+    match read {
+        ObjectRead::Object(object) => object.next,
+        ObjectRead::Malformed(_) => at,
+    }
+}
+
+// The work of a reader at index `at`, on the field itself.
+pub fn read_step(wanted: Wanted, after: usize, field: &[u8], at: usize) -> Step
+    requires { ⌜ at < length (now field) ⌝ }
+    ensures { λ r. ⌜ r ≡ readStep wanted after (now (field .entry)) at ⌝ }
+{
+    let read = read_object(wanted, after, field, at);
+    let next = index_after(read, at);
+    Step { read, at: next }
 }

@@ -4,7 +4,7 @@ use mathlib.Core.List.{List}
 use denote.Ref.{RefT}
 use Rattle.field_object.specs.declared.ObjectRead.{ObjectRead}
 use Rattle.field_reader.specs.declared.Reader.{Reader}
-use Rattle.field_object_step.specs.Step.{indexAfter}
+use Rattle.field_object.specs.Step.{indexAfter}
 
 abbrev pub opened : RefT (List ℕ) → ℕ → Reader
 opened field at = record { field = field; at = at }

@@ -1,14 +1,14 @@
 // A reader that keeps the lent field and its place (document 01, "Objects, encryption and MAC").
 use field_expected::Wanted;
 use field_object::ObjectRead;
-use field_object_step::Step;
-use field_object_step::read_step;
+use field_object::Step;
+use field_object::read_step;
 ghost use mathlib.Core.Path.{_≡_};
 ghost use Prim.Native.Nat.{_<_};
 ghost use lib.ListN.{length};
 ghost use Rattle.field_object.specs.Object.{readObject};
 ghost use Rattle.field_reader.specs.Reader.{opened, moved};
-ghost use Rattle.field_object_step.specs.Step.{readStep};
+ghost use Rattle.field_object.specs.Step.{readStep};
 
 // The field, and the index of the next object.
 pub struct Reader<'a> {

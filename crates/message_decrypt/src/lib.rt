@@ -3,7 +3,7 @@
 use aes::encrypt_block;
 use aes_key_schedule::KeySize;
 use field_padding::Unpadded;
-use field_unpadding::unpad;
+use field_padding::unpad;
 use message_key::expanded;
 use message_key::key_size;
 use octets::put_bytes;
@@ -26,7 +26,7 @@ fn decrypt_start(size: KeySize, w: &[[u8; 4]; 60], iv: [u8; 16], text: &mut [u8]
     ensures text { λ _. ⌜ now (text .exit) ≡ over (now (text .entry)) (cbcDecrypt (invCiph size (now (w .entry))) iv (take n (now (text .entry)))) ⌝ }
     ensures length { λ _. ⌜ length (cbcDecrypt (invCiph size (now (w .entry))) iv (take n (now (text .entry)))) ≡ n ⌝ }
 {
-    mode_cbc_decryption::decrypt(size, w, iv, &mut text[..n]);
+    mode_cbc::decrypt(size, w, iv, &mut text[..n]);
 }
 
 // Of some whole blocks: the padded data, from index 0 of text on, and where the data ends.

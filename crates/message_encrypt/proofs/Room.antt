@@ -16,7 +16,7 @@ use Rattle.field_write.proofs.FieldLengths.{length-encryptedData, length-leObje
 use Rattle.session_stored_keys.specs.StoredKeys.{keyIn}
 use Rattle.session_suite.specs.declared.Suite.{Suite}
 use Rattle.message_ciphers.specs.Aes.{encrypt}
-use Rattle.message_encrypt_blocks.proofs.Encrypted.{length-encrypt}
+use Rattle.message_encrypt.proofs.Encrypted.{length-encrypt}
 
 -- less than m blocks of data take at most m
 pub ciphertext-fits : (p m : ℕ) → p < 16 * m → ciphertextLength p ≤ 16 * m

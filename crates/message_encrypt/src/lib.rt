@@ -1,12 +1,21 @@
 // The data of a message, padded and encrypted under the counter of its number (SP 800-73-4 Part 2, 4.2.2).
-use message_encrypt_blocks::encrypt_some;
+use aes::encrypt_block;
+use aes_key_schedule::KeySize;
+use field_padding::put_padding;
+use message_key::expanded;
+use message_key::key_size;
+use octets::put_bytes;
 use session_suite::Suite;
-ghost use Prim.Native.Nat.{_≤_};
-ghost use lib.ListN.{length};
-ghost use Rattle.octets.specs.Write.{Wrote};
+ghost use Prim.Native.Nat.{_≤_, _<_, _%_};
+ghost use lib.ListN.{length, take};
+ghost use mathlib.Core.Path.{_≡_};
+ghost use Rattle.octets.specs.Write.{Wrote, over};
 ghost use Rattle.field_size.specs.Lengths.{ciphertextLength};
 ghost use Rattle.session_stored_keys.specs.StoredKeys.{keyIn};
 ghost use Rattle.message_ciphers.specs.Aes.{encrypt};
+ghost use Rattle.field_padding.specs.Padding.{pad, paddedLength};
+ghost use Rattle.aes.specs.Aes.{ciph};
+ghost use Rattle.mode_cbc.specs.Cbc.{cbcEncrypt};
 
 // The encrypted data, from index 0 on; the index behind it. Of no data it is nothing.
 pub fn encrypt_text(
@@ -23,4 +32,42 @@ pub fn encrypt_text(
         return 0;
     }
     encrypt_some(suite, sk_enc, counter, data, text)
+}
+
+// ---- Some data, padded and encrypted under the counter of its number (SP 800-73-4 Part 2, 4.2.2).
+
+// CBC encryption of the first n bytes.
+fn encrypt_start(size: KeySize, w: &[[u8; 4]; 60], iv: [u8; 16], text: &mut [u8], n: usize)
+    requires { ⌜ (n % 16 ≡ 0) × (n ≤ length (now text)) ⌝ }
+    ensures { λ _. ⌜ now (text .exit) ≡ over (now (text .entry)) (cbcEncrypt (ciph size (now (w .entry))) iv (take n (now (text .entry)))) ⌝ }
+{
+    mode_cbc::encrypt(size, w, iv, &mut text[..n]);
+}
+
+// Data and padding, from index 0 on; the index behind them.
+fn put_padded(text: &mut [u8], data: &[u8]) -> usize
+    requires { ⌜ paddedLength (length (now «data»)) ≤ length (now text) ⌝ }
+    ensures { λ n. ⌜ Wrote (now (text .entry)) 0 (pad (now («data» .entry))) n (now (text .exit)) ⌝ }
+{
+    let p = put_bytes(text, 0, data);
+    put_padding(text, p, data.len())
+}
+
+// Of some data: encrypted, from index 0 on; the index behind it.
+fn encrypt_some(
+    suite: Suite,
+    sk_enc: [u8; 32],
+    counter: [u8; 16],
+    data: &[u8],
+    text: &mut [u8],
+) -> usize
+    requires { ⌜ (0 < length (now «data»)) × (paddedLength (length (now «data»)) ≤ length (now text)) ⌝ }
+    ensures { λ n. ⌜ Wrote (now (text .entry)) 0 (encrypt (keyIn suite «sk_enc») counter (now («data» .entry))) n (now (text .exit)) ⌝ }
+{
+    let w = expanded(suite, sk_enc);
+    let size = key_size(suite);
+    let iv = encrypt_block(size, &w, counter);
+    let n = put_padded(text, data);
+    encrypt_start(size, &w, iv, text, n);
+    n
 }

@@ -1,1 +1,2 @@
 pub mod MacInput
+pub mod Same

@@ -1,8 +1,12 @@
 // Which INS and statuses are permitted, and what Le and data each INS takes (document 01, "Objects, encryption and MAC").
 use field_expected::Need;
+use field_expected::Second;
+use field_expected::Wanted;
 ghost use mathlib.Core.Path.{_≡_};
-ghost use Rattle.message_answer.specs.Message.{status};
-ghost use Rattle.message_permission.specs.Permission.{insPermitted, leNeed, dataNeed, statusPermitted};
+ghost use Prim.Native.Nat.{_<_};
+ghost use Rattle.message_answer.specs.Message.{status, header};
+ghost use Rattle.message_permission.specs.Permission.{insPermitted, leNeed, dataNeed, statusPermitted, commandWanted, responseWanted, commandPermitted};
+ghost use Rattle.field_expected.specs.Wanted.{suits};
 
 const VERIFY: u8 = 0x20;
 
@@ -28,7 +32,7 @@ pub fn ins_permitted(ins: u8) -> bool
 }
 
 // Whether a command has, may have or must not have Le.
-pub fn le_need(ins: u8) -> Need
+fn le_need(ins: u8) -> Need
     ensures { λ need. ⌜ need ≡ leNeed ins ⌝ }
 {
     if ins == GET_DATA {
@@ -41,7 +45,7 @@ pub fn le_need(ins: u8) -> Need
 }
 
 // Only VERIFY may lack data.
-pub fn data_need(ins: u8) -> Need
+fn data_need(ins: u8) -> Need
     ensures { λ need. ⌜ need ≡ dataNeed ins ⌝ }
 {
     if ins != VERIFY {
@@ -55,4 +59,59 @@ pub fn status_permitted(sw1: u8, sw2: u8) -> bool
     ensures { λ r. ⌜ r ≡ statusPermitted (status sw1 sw2) ⌝ }
 {
     sw1 != 0x61
+}
+
+// ---- What the field of a command and of a response is read for (document 01, "Objects, encryption and MAC").
+
+// The most encrypted data in a field that is read.
+const MAX_COMMAND_CIPHERTEXT: usize = 2048;
+
+const MAX_RESPONSE_CIPHERTEXT: usize = 16384;
+
+// What a command's field is read for.
+pub fn command_wanted(ins: u8) -> Wanted
+    ensures { λ wanted. ⌜ wanted ≡ commandWanted ins ⌝ }
+{
+    let data = data_need(ins);
+    let le = le_need(ins);
+    Wanted {
+        data,
+        limit: MAX_COMMAND_CIPHERTEXT,
+        second: Second::Le(le),
+    }
+}
+
+// What a response's field is read for, beside a status word.
+pub fn response_wanted(sw1: u8, sw2: u8) -> Wanted
+    ensures { λ wanted. ⌜ wanted ≡ responseWanted (status sw1 sw2) ⌝ }
+{
+    Wanted {
+        data: Need::May,
+        limit: MAX_RESPONSE_CIPHERTEXT,
+        second: Second::Status(sw1, sw2),
+    }
+}
+
+// ---- Whether a command is permitted: its INS, and whether Le and data suit it (document 01, "Objects, encryption and MAC").
+
+fn suits(need: Need, there: bool) -> bool
+    ensures { λ r. ⌜ r ≡ suits need there ⌝ }
+{
+    match need {
+        Need::Must => there,
+        Need::May => true,
+        Need::MustNot => !there,
+    }
+}
+
+// A command with n bytes of data.
+pub fn command_permitted(ins: u8, p1: u8, p2: u8, le: bool, n: usize) -> bool
+    ensures { λ r. ⌜ r ≡ commandPermitted (header ins p1 p2 le) n ⌝ }
+{
+    if ins_permitted(ins) {
+        if suits(data_need(ins), 0 < n) {
+            return suits(le_need(ins), le);
+        }
+    }
+    false
 }

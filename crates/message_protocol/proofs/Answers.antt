@@ -9,7 +9,7 @@ use Prim.Native.Nat.{ℕ}
 use lib.ListN.{replicate}
 use Rattle.octets.specs.Bytes.{Bytes, zeros}
 use Rattle.octets.specs.Choice.{if_then_else_}
-use Rattle.message_mac_compare.specs.Same.{same}
+use Rattle.message_mac.specs.Same.{same}
 use Rattle.field_padding.specs.Padding.{padding, pad, paddedLength, marked, markBefore, unpad}
 use Rattle.field_ber_length.specs.Length.{lengthField, readLength, isShortest}
 use Rattle.field_expected.specs.Wanted.{rank, allowed}

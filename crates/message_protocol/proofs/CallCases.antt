@@ -10,7 +10,7 @@ use lib.ListN.{length, take}
 use Rattle.message_answer.proofs.Required.{not-refused, require-gave}
 use Rattle.octets.proofs.Tests.{both}
 use Rattle.octets.specs.Bytes.{Bytes}
-use Rattle.message_mac_compare.proofs.SameBytes.{same-eq}
+use Rattle.message_mac.proofs.SameBytes.{same-eq}
 use Rattle.field_walk.specs.Field.{readField, ciphertextOf, coveredOf, macOf}
 use Rattle.field_walk.specs.declared.Objects.{Objects}
 use Rattle.field_walk.specs.declared.FieldRead.{FieldRead}

@@ -14,7 +14,7 @@ use Rattle.octets.proofs.Tests.{both}
 use Rattle.octets.specs.Bytes.{Bytes, IsBytes}
 use Rattle.octets.specs.Choice.{if_then_else_}
 use Rattle.field_padding.specs.Padding.{paddedLength}
-use Rattle.message_mac_compare.proofs.SameBytes.{same-self}
+use Rattle.message_mac.proofs.SameBytes.{same-self}
 use Rattle.field_walk.specs.Field.{ciphertextOf, coveredOf}
 use Rattle.field_walk.specs.declared.Objects.{Objects}
 use Rattle.field_write.specs.Objects.{commandObjects, responseObjects, commandField, responseField}
@@ -29,7 +29,7 @@ use Rattle.field_laws.proofs.ReadBack.{read-command, read-response}
 use Rattle.refusal.specs.declared.Refusal.{Refusal}
 use Rattle.session.specs.Session.{fresh}
 use Rattle.session_stored_keys.specs.StoredKeys.{Keys, keysFit, stored, keyIn}
-use Rattle.session_transitions.specs.Transitions.{commandTaken, responseTaken}
+use Rattle.session_turn.specs.Transitions.{commandTaken, responseTaken}
 use Rattle.session_turn.specs.Turn.{sameSide, samePhase, isTurn}
 use Rattle.session.specs.declared.Side.{Side}
 use Rattle.session.specs.declared.Side.the-variants.{Host, Card}

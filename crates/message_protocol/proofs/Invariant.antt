@@ -23,7 +23,7 @@ use Rattle.field_laws.specs.Written.{WholeBlocks}
 use Rattle.field_laws.proofs.Determined.{determined}
 use Rattle.field_laws.proofs.CoveredWritten.{command-data, command-le, response-data, response-status}
 use Rattle.session.specs.Session.{closed}
-use Rattle.session_transitions.specs.Transitions.{commandTaken, responseTaken}
+use Rattle.session_turn.specs.Transitions.{commandTaken, responseTaken}
 use Rattle.session_stored_keys.specs.StoredKeys.{keyIn, Keys}
 use Rattle.session_rules.specs.Valid.{keepsPhase, valid, isOpen, countsAsOpen}
 use Rattle.session.specs.declared.Side.{Side}

@@ -17,8 +17,8 @@ use Rattle.octets.proofs.Tests.{both}
 use Rattle.octets.specs.Bytes.{Bytes, IsBytes, zeros, _⊕_}
 use Rattle.octets.specs.Choice.{if_then_else_}
 use Rattle.octets.proofs.Xor.{xor-undo}
-use Rattle.message_mac_compare.specs.Same.{same}
-use Rattle.message_mac_compare.proofs.SameBytes.{same-eq, same-self}
+use Rattle.message_mac.specs.Same.{same}
+use Rattle.message_mac.proofs.SameBytes.{same-eq, same-self}
 use Rattle.field_padding.specs.Padding.{padding, pad, paddedLength, marked, markBefore, unpad}
 use Rattle.field_padding.proofs.Lengths.{length-pad}
 use Rattle.field_ber_length.specs.Length.{lengthField, readLength, isShortest}

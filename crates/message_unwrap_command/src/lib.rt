@@ -1,13 +1,16 @@
 // The card unwraps a command (SP 800-73-4 Part 2, 4.2.2 to 4.2.4): the MAC is checked before anything is decrypted, the padding before anything is
 // written.
+mod checks;
+mod open;
+
+use checks::unwrap_command_checks;
 use field_read::read_field;
 use field_walk::FieldRead;
-use message_permission_field::command_wanted;
+use message_permission::command_wanted;
 use message_result::Checked;
 use message_result::CommandResult;
 use message_result::refused_command;
-use message_unwrap_command_checks::unwrap_command_checks;
-use message_unwrap_command_open::open_command;
+use open::open_command;
 use refusal::Refusal;
 use session::Session;
 ghost use mathlib.Core.Path.{_≡_};

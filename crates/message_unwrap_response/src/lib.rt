@@ -1,13 +1,16 @@
 // The host unwraps a response (SP 800-73-4 Part 2, 4.2.2 and 4.2.5): the MAC is checked before anything is decrypted, the padding before anything is
 // written.
+mod checks;
+mod open;
+
+use checks::unwrap_response_checks;
 use field_read::read_field;
 use field_walk::FieldRead;
-use message_permission_field::response_wanted;
+use message_permission::response_wanted;
 use message_result::Checked;
 use message_result::ResponseResult;
 use message_result::refused_response;
-use message_unwrap_response_checks::unwrap_response_checks;
-use message_unwrap_response_open::open_response;
+use open::open_response;
 use refusal::Refusal;
 use session::Session;
 ghost use mathlib.Core.Path.{_≡_};

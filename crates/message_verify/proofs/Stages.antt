@@ -8,7 +8,7 @@ use native.Mathlib.Omega.{arith}
 use borrow.Author.Tests.{lt-leb, le-leb}
 use lib.ListN.{length, take}
 use Rattle.octets.specs.Bytes.{Bytes}
-use Rattle.message_mac_compare.specs.Same.{same}
+use Rattle.message_mac.specs.Same.{same}
 use Rattle.field_padding.specs.declared.Unpadded.{Unpadded}
 use Rattle.field_padding.specs.declared.Unpadded.the-variants.{Data, BadPadding}
 use Rattle.field_walk.specs.Field.{ciphertextOf, macOf}

@@ -3,8 +3,8 @@
 use field_padding::Unpadded;
 use field_walk::Objects;
 use message_decrypt::decrypt_text;
-use message_mac_compare::mac_matches;
-use message_mac_truncated::truncated;
+use message_mac::mac_matches;
+use message_mac::truncated;
 use refusal::Refusal;
 use session_suite::Suite;
 ghost use mathlib.Core.Path.{_≡_};

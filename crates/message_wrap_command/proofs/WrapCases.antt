@@ -13,7 +13,7 @@ use Rattle.message_result.specs.Results.{checked}
 use Rattle.message_result.specs.declared.Checked.the-variants.{Passed, Refused}
 use Rattle.message_result.proofs.Checks.{tests-passed, test-refused}
 use Rattle.message_answer.specs.Message.{header}
-use Rattle.message_wrap_command_write.specs.WrittenCommand.{commandWritten}
+use Rattle.message_wrap_command.specs.WrittenCommand.{commandWritten}
 use Rattle.message_wrap_command.specs.WrapCommand.{wrapCommand}
 
 module _ (s : Session) (ins p1 p2 : ℕ) (le : Bool) (d : Bytes) (room : ℕ) where

@@ -1,10 +1,14 @@
 // The host wraps a command (SP 800-73-4 Part 2, 4.2.2 to 4.2.4).
+mod checks;
+mod objects;
+mod write;
+
+use checks::wrap_command_checks;
 use message_result::Checked;
 use message_result::WrapResult;
 use message_result::refused_wrap;
-use message_wrap_command_checks::wrap_command_checks;
-use message_wrap_command_write::write_command;
 use session::Session;
+use write::write_command;
 ghost use mathlib.Core.Path.{_≡_};
 ghost use lib.ListN.{length};
 ghost use Rattle.octets.specs.Bytes.{IsBytes};

@@ -12,7 +12,7 @@ use Rattle.message_result.specs.Results.{checked}
 use Rattle.message_result.specs.declared.Checked.the-variants.{Passed, Refused}
 use Rattle.message_result.proofs.Checks.{tests-passed, test-refused}
 use Rattle.message_answer.specs.Message.{status}
-use Rattle.message_wrap_response_write.specs.WrittenResponse.{responseWritten}
+use Rattle.message_wrap_response.specs.WrittenResponse.{responseWritten}
 use Rattle.message_wrap_response.specs.WrapResponse.{wrapResponse}
 
 module _ (s : Session) (sw1 sw2 : ℕ) (d : Bytes) (room : ℕ) where

@@ -1,10 +1,14 @@
 // The card wraps a response (SP 800-73-4 Part 2, 4.2.2 and 4.2.5).
+mod checks;
+mod objects;
+mod write;
+
+use checks::wrap_response_checks;
 use message_result::Checked;
 use message_result::WrapResult;
 use message_result::refused_wrap;
-use message_wrap_response_checks::wrap_response_checks;
-use message_wrap_response_write::write_response;
 use session::Session;
+use write::write_response;
 ghost use mathlib.Core.Path.{_≡_};
 ghost use lib.ListN.{length};
 ghost use Rattle.octets.specs.Bytes.{IsBytes};

@@ -39,7 +39,7 @@ pub extern "C" fn pivsm_aes_decrypt(key: &[u8], block: &mut [u8]) -> u32
         return MALFORMED;
     }
     let w = expanded(size, key);
-    let result = aes_decryption::decrypt_block(size, &w, block_at(block, 0));
+    let result = aes::decrypt_block(size, &w, block_at(block, 0));
     put_bytes(block, 0, &result);
     DONE
 }

@@ -22,7 +22,7 @@ pub extern "C" fn pivsm_cbc_encrypt(key: &[u8], iv: &[u8], data: &mut [u8]) -> u
         return MALFORMED;
     }
     let w = expanded(size, key);
-    match mode_cbc_encryption::encrypt(size, &w, block_at(iv, 0), data) {
+    match mode_cbc::encrypt(size, &w, block_at(iv, 0), data) {
         Outcome::Done => DONE,
         Outcome::PartialBlock => MALFORMED,
     }
@@ -40,7 +40,7 @@ pub extern "C" fn pivsm_cbc_decrypt(key: &[u8], iv: &[u8], data: &mut [u8]) -> u
         return MALFORMED;
     }
     let w = expanded(size, key);
-    match mode_cbc_decryption::decrypt(size, &w, block_at(iv, 0), data) {
+    match mode_cbc::decrypt(size, &w, block_at(iv, 0), data) {
         Outcome::Done => DONE,
         Outcome::PartialBlock => MALFORMED,
     }

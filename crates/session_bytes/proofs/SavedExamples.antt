@@ -4,7 +4,7 @@ use mathlib.Core.Path.{_≡_, refl}
 use mathlib.Core.List.{[], _∷_, _++_}
 use Rattle.octets.specs.Bytes.{zeros}
 use Rattle.session.specs.Session.{closedAt, fresh}
-use Rattle.session_transitions.specs.Transitions.{commandTaken}
+use Rattle.session_turn.specs.Transitions.{commandTaken}
 use Rattle.session.specs.declared.Side.the-variants.{Host, Card}
 use Rattle.session_suite.specs.declared.Suite.the-variants.{Cs2, Cs7}
 use Rattle.session.specs.declared.Phase.the-variants.{Pending}

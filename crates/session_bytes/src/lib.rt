@@ -1,14 +1,23 @@
 // The session as 138 bytes (document 01, "The saved session"): writing it, and the laws of writing and reading.
+mod read;
+
 use octets::put_bytes;
+use read::session_from;
+use read::wide;
 use refusal::Refusal;
 use session::Phase;
 use session::Session;
 use session::Side;
+use session_rules::valid;
+use session_suite::SuiteNumber;
+use session_suite::suite_of;
 ghost use mathlib.Core.Path.{_≡_};
 ghost use Prim.Native.Nat.{_+_, _≤_};
-ghost use lib.ListN.{length};
+ghost use lib.ListN.{length, getD};
 ghost use Rattle.octets.specs.Write.{Wrote};
-ghost use Rattle.session_bytes.specs.Saved.{sideNumber, phaseNumber, header, keys, mcvs, encode};
+ghost use Rattle.session_bytes.specs.Saved.{sideNumber, phaseNumber, header, keys, mcvs, encode, headed, unreadable, accepted, decodeSuite, decode};
+ghost use Rattle.octets.specs.Bytes.{IsBytes};
+ghost use Rattle.session_suite.specs.Suites.{suiteOf};
 
 // The length of a saved session.
 pub const SIZE: usize = 138;
@@ -102,4 +111,71 @@ pub fn put_session(session: Session, out: &mut [u8]) -> usize
     let k = put_header(session, out);
     let m = put_keys(session, out, k);
     put_mcvs(session, out, m)
+}
+
+// ---- Reading a saved session (document 01, "The saved session").
+
+fn headed(bytes: &[u8]) -> bool
+    ensures { λ right. ⌜ right ≡ headed (now (bytes .entry)) ⌝ }
+{
+    if bytes.len() != SIZE {
+        return false;
+    }
+    if bytes[0] != 0x00 {
+        return false;
+    }
+    if bytes[1] != 0x88 {
+        return false;
+    }
+    if bytes[2] != 0x01 {
+        return false;
+    }
+    if bytes[3] > 1 {
+        return false;
+    }
+    bytes[4] <= 2
+}
+
+pub fn unreadable() -> Decoded
+    ensures { λ decoded. ⌜ decoded ≡ unreadable ⌝ }
+{
+    let session = Session::none(Side::Host);
+    Decoded {
+        answer: Decoding::Refused(Refusal::BadSession),
+        session,
+    }
+}
+
+fn accepted(session: Session) -> Decoded
+    ensures { λ decoded. ⌜ decoded ≡ accepted session ⌝ }
+{
+    if valid(session) {
+        return Decoded {
+            answer: Decoding::Decoded,
+            session,
+        };
+    }
+    unreadable()
+}
+
+fn decode_suite(bytes: &[u8]) -> Decoded
+    requires { ⌜ length (now bytes) ≡ 138 ⌝ }
+    ensures { λ decoded. ⌜ decoded ≡ decodeSuite (now (bytes .entry)) (suiteOf (getD (now (bytes .entry)) 5 0)) ⌝ }
+{
+    let known = suite_of(wide(bytes[5]));
+    match known {
+        SuiteNumber::Known(suite) => accepted(session_from(bytes, suite)),
+        SuiteNumber::Unknown => unreadable(),
+    }
+}
+
+// Reads a saved session: refusal 16.
+pub fn decode(bytes: &[u8]) -> Decoded
+    ensures decoded { λ decoded. ⌜ decoded ≡ decode (now (bytes .entry)) ⌝ }
+    ensures bytes { λ decoded. ⌜ IsBytes (now (bytes .entry)) ⌝ }
+{
+    if headed(bytes) {
+        return decode_suite(bytes);
+    }
+    unreadable()
 }

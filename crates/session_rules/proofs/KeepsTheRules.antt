@@ -14,7 +14,7 @@ use Rattle.octets.specs.Choice.{if_then_else_}
 use Rattle.octets.proofs.Tests.{both, and-intro}
 use Rattle.session_suite.specs.Suites.{keyLength, suiteOf}
 use Rattle.session.specs.Session.{fresh, closed}
-use Rattle.session_transitions.specs.Transitions.{commandTaken, responseTaken}
+use Rattle.session_turn.specs.Transitions.{commandTaken, responseTaken}
 use Rattle.session_stored_keys.specs.StoredKeys.{stored, Keys, keysFit}
 use Rattle.session.specs.Opening.{openSuite, opening}
 use Rattle.session.specs.declared.Side.{Side}

@@ -61,7 +61,7 @@ fn put_command(out: &mut [u8]) {
     if out.len() < field_size::command_length(5, true) {
         return;
     }
-    let next = field_write_objects::put_command_objects(out, &ciphertext, true);
+    let next = field_write::put_command_objects(out, &ciphertext, true);
     field_write::put_mac(out, next, [b'M'; 8]);
 }
 
@@ -70,7 +70,7 @@ fn put_response(out: &mut [u8]) {
     if out.len() < field_size::response_length(112) {
         return;
     }
-    let next = field_write_objects::put_response_objects(out, &ciphertext, 0x90, 0x00);
+    let next = field_write::put_response_objects(out, &ciphertext, 0x90, 0x00);
     field_write::put_mac(out, next, [b'M'; 8]);
 }
 

@@ -110,7 +110,7 @@ fn example_vectors(source: &[u8], size: KeySize, rounds: usize, w: &[[u8; 4]; 60
     requires { ⌜ rounds < 15 ⌝ }
 {
     let output = aes::encrypt_block(size, w, INPUT_C);
-    let back = aes_decryption::decrypt_block(size, w, output);
+    let back = aes::decrypt_block(size, w, output);
     cipher(source, rounds, w, aes_state::state_of(INPUT_C));
     inv_cipher(source, rounds, w, aes_state::state_of(output));
     test_print::value(source, b" encrypt ", output);
@@ -223,7 +223,7 @@ fn inv_last_round(source: &[u8], round: usize, start: State, key: State) {
 
 fn inv_key_added(source: &[u8], round: usize, start: State, key: State) -> State {
     step(source, round, b".istart ", start);
-    let shifted = aes_inv_shift_rows::inv_shift_rows(start);
+    let shifted = aes_shift_rows::inv_shift_rows(start);
     step(source, round, b".is_row ", shifted);
     let table = aes_sbox::inv_sbox();
     let substituted = aes_sub_bytes::sub_bytes(&table, shifted);

@@ -49,13 +49,13 @@ fn main() {
 
 fn encrypted(size: KeySize, w: &[[u8; 4]; 60], plaintext: [u8; 64]) -> [u8; 64] {
     let mut data = plaintext;
-    mode_cbc_encryption::encrypt(size, w, IV, &mut data);
+    mode_cbc::encrypt(size, w, IV, &mut data);
     data
 }
 
 fn decrypted(size: KeySize, w: &[[u8; 4]; 60], ciphertext: [u8; 64]) -> [u8; 64] {
     let mut data = ciphertext;
-    mode_cbc_decryption::decrypt(size, w, IV, &mut data);
+    mode_cbc::decrypt(size, w, IV, &mut data);
     data
 }
 

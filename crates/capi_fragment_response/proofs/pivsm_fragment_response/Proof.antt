@@ -1,7 +1,7 @@
 -- `pivsm_fragment_response` meets its contract: its numbers are those of the answer. Assumes nothing.
 use mathlib.Core.Path.{ap, _∙_}
 use borrow.Author.Needs.{needs}
-use Rattle.capi_values_chaining.specs.ChainingValues.{responseFragmentValues}
+use Rattle.capi_values.specs.ChainingValues.{responseFragmentValues}
 use Rattle.capi_values.specs.declared.Values.{Values}
 use Rattle.capi_fragment_response.proofs.pivsm_fragment_response.Statement.{statement}
 use Rattle.capi_fragment_response.proofs.pivsm_fragment_response.Tie as tie

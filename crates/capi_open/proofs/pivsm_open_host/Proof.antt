@@ -5,7 +5,7 @@ use borrow.Author.Needs.{needs}
 use Rattle.octets.specs.Bytes.{Bytes}
 use Rattle.session.specs.declared.Opened.{Opened}
 use Rattle.message_answer.specs.Answer.{buffer}
-use Rattle.capi_open_bytes.specs.OpenOn.{bytesOf, openGives}
+use Rattle.capi_open.specs.OpenOn.{bytesOf, openGives}
 use Rattle.capi_open.proofs.pivsm_open_host.Statement.{statement}
 use Rattle.capi_open.proofs.pivsm_open_host.Tie as tie
 

@@ -6,10 +6,10 @@ use borrow.Author.Needs.{needs}
 use Rattle.chain_command.specs.Reassembly.{reassembleCommand, reassemblyBuffer}
 use Rattle.chain_command.specs.declared.CommandChain.{CommandChain}
 use Rattle.chain_command.specs.declared.Reassembly.{Reassembly}
-use Rattle.capi_values_chaining.specs.ChainingValues.{reassemblyValues}
+use Rattle.capi_values.specs.ChainingValues.{reassemblyValues}
 use Rattle.capi_values.specs.declared.Values.{Values}
-use Rattle.capi_chain_numbers.specs.ChainNumbers.{chainNumber}
-use Rattle.capi_chain_numbers.proofs.ChainNumbers.{left-short}
+use Rattle.capi_reassemble_command.specs.ChainNumbers.{chainNumber}
+use Rattle.capi_reassemble_command.proofs.ChainNumbers.{left-short}
 use Rattle.capi_reassemble_command.proofs.pivsm_reassemble_command.Statement.{statement}
 use Rattle.capi_reassemble_command.proofs.pivsm_reassemble_command.Tie as tie
 

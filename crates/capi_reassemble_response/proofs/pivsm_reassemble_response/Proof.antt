@@ -2,7 +2,7 @@
 use mathlib.Core.Path.{ap, _∙_}
 use borrow.Author.Needs.{needs}
 use Rattle.chain_response.specs.declared.ResponseReassembly.{ResponseReassembly}
-use Rattle.capi_values_chaining.specs.ChainingValues.{responseReassemblyValues}
+use Rattle.capi_values.specs.ChainingValues.{responseReassemblyValues}
 use Rattle.capi_values.specs.declared.Values.{Values}
 use Rattle.capi_reassemble_response.proofs.pivsm_reassemble_response.Statement.{statement}
 use Rattle.capi_reassemble_response.proofs.pivsm_reassemble_response.Tie as tie

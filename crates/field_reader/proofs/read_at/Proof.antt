@@ -55,13 +55,13 @@ use Rattle.field_expected.proofs.Wanted.Laws as G′
 use Rattle.field_object.proofs.ObjectRead as E
 use Rattle.field_object.proofs.ObjectRead.Laws as E′
 use Rattle.field_reader.specs.Reader.{opened, moved}
-use Rattle.field_object_step.specs.Step.{indexAfter, readStep}
+use Rattle.field_object.specs.Step.{indexAfter, readStep}
 use Rattle.field_reader.specs.declared.Reader.{Reader}
-use Rattle.field_object_step.specs.declared.Step.{Step}
+use Rattle.field_object.specs.declared.Step.{Step}
 use Rattle.field_reader.proofs.Reader as T
 use Rattle.field_reader.proofs.Reader.Laws as T′
-use Rattle.field_object_step.proofs.Step as S
-use Rattle.field_object_step.proofs.Step.Laws as S′
+use Rattle.field_object.proofs.Step as S
+use Rattle.field_object.proofs.Step.Laws as S′
 use Rattle.field_reader.proofs.Reader.new as new
 use Rattle.field_reader.proofs.Reader.new.Symbol as new-def
 use Rattle.field_reader.proofs.Reader.new.Symbol.{name as #new}

@@ -8,7 +8,7 @@ use mathlib.Core.Path.{sym}
 use lib.Seq.{length-take-le}
 use Rattle.aes.specs.Aes.{invCiph}
 use Rattle.mode_cbc.specs.Cbc.{cbcDecrypt}
-use Rattle.message_encrypt_blocks.proofs.StartChanged.{start-changed, length-changed}
+use Rattle.message_encrypt.proofs.StartChanged.{start-changed, length-changed}
 
 slice-aggregate-decrypt : tie.Need-slice-aggregate-decrypt
 slice-aggregate-decrypt c = sym (length-take-le (c .before .before .args .n) (c .before .before .args .text .now) (c .before .before .pre .1))

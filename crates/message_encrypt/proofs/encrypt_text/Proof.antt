@@ -9,7 +9,7 @@ use lib.ListN.{length}
 use Rattle.octets.proofs.Writing.{wrote-none}
 use Rattle.session_stored_keys.specs.StoredKeys.{keyIn}
 use Rattle.field_size.specs.Lengths.{ciphertextLength}
-use Rattle.message_encrypt_blocks.proofs.Encrypted.{encrypt-none}
+use Rattle.message_encrypt.proofs.Encrypted.{encrypt-none}
 
 returns : tie.Need-returns
 returns c =

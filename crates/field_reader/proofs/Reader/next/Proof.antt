@@ -52,17 +52,17 @@ use Rattle.field_expected.proofs.Wanted as G
 use Rattle.field_expected.proofs.Wanted.Laws as G′
 use Rattle.field_object.proofs.ObjectRead as E
 use Rattle.field_object.proofs.ObjectRead.Laws as E′
-use Rattle.field_object_step.specs.Step.{indexAfter, readStep}
+use Rattle.field_object.specs.Step.{indexAfter, readStep}
 use Rattle.field_reader.specs.declared.Reader.{Reader}
-use Rattle.field_object_step.specs.declared.Step.{Step}
+use Rattle.field_object.specs.declared.Step.{Step}
 use Rattle.field_reader.proofs.Reader as T
 use Rattle.field_reader.proofs.Reader.Laws as T′
-use Rattle.field_object_step.proofs.Step as S
-use Rattle.field_object_step.proofs.Step.Laws as S′
-use Rattle.field_object_step.proofs.read_step as reads
-use Rattle.field_object_step.proofs.read_step.Symbol as reads-def
-use Rattle.field_object_step.proofs.read_step.Symbol.{name as #read-step}
-use Rattle.field_object_step.proofs.read_step.Met as reads-thm
+use Rattle.field_object.proofs.Step as S
+use Rattle.field_object.proofs.Step.Laws as S′
+use Rattle.field_object.proofs.read_step as reads
+use Rattle.field_object.proofs.read_step.Symbol as reads-def
+use Rattle.field_object.proofs.read_step.Symbol.{name as #read-step}
+use Rattle.field_object.proofs.read_step.Met as reads-thm
 use Rattle.field_reader.proofs.Reader.next.Key.{name as #next}
 use Rattle.field_reader.proofs.Reader.next as this
 use Rattle.field_reader.proofs.Reader.next.Statement as stated
@@ -232,4 +232,4 @@ next-spec 𝓤 H 𝓜 𝓖 𝓡 =
     entered 𝓤 H (tripleOf 𝓤 H (𝓖 .A) this.signature (this.spec 𝓤 H (𝓖 .A) (𝓜 .mem) (𝓡 .run)))
     (tables 𝓤 H 𝓜 𝓡 code.env .C) (tables 𝓤 H 𝓜 𝓡 code.env .Λ) #next code.function (code.unfolded 𝓤 H 𝓜 𝓡)
     (meets 𝓤 H (𝓖 .A) (givenOf 𝓤 H 𝓜 𝓖) (𝓜 .mem) (𝓡 .run) (tablesOf 𝓤 H 𝓜 (tables 𝓤 H 𝓜 𝓡 code.env))
-    (cited 𝓤 H (ReadStep 𝓤 H (𝓖 .A) (𝓜 .mem) (𝓡 .run)) 𝓜 𝓡 code.env #read-step reads-def.routine code.calls-field-object-step·read-step (reads-thm.met 𝓤 H 𝓜 𝓖 𝓡)))
+    (cited 𝓤 H (ReadStep 𝓤 H (𝓖 .A) (𝓜 .mem) (𝓡 .run)) 𝓜 𝓡 code.env #read-step reads-def.routine code.calls-field-object·read-step (reads-thm.met 𝓤 H 𝓜 𝓖 𝓡)))

@@ -1,2 +1,0 @@
-pub mod StartChanged
-pub mod Encrypted
