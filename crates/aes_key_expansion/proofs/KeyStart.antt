@@ -13,8 +13,8 @@ use Rattle.octets.specs.Bytes.{Bytes, zeros}
 use Rattle.octets.specs.Choice.{if_then_else_}
 use Rattle.octets.proofs.Tabulate.{tabulate-ext}
 use Rattle.aes_state.specs.State.{Word, addWord}
-use Rattle.aes_key_schedule.specs.KeySizes.{nk, nr}
-use Rattle.aes_key_schedule.specs.declared.KeySize.{KeySize}
+use Rattle.aes_key_expansion.specs.KeySizes.{nk, nr}
+use Rattle.aes_key_expansion.specs.declared.KeySize.{KeySize}
 use Rattle.aes_key_expansion.specs.KeyExpansion.{temp, keyWord, nextWord, words, keyExpansion, schedule}
 
 module _ (n : ℕ) (key : Bytes) where

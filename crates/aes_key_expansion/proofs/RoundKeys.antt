@@ -19,10 +19,10 @@ use Rattle.aes_sbox.proofs.TableRule.{sBox-lt}
 use Rattle.aes_state.specs.State.{Word, word, addWord, IsState}
 use Rattle.aes_sub_bytes.specs.SubBytes.{subWord}
 use Rattle.aes_gf.proofs.XTimes.{xTimes-byte}
-use Rattle.aes_key_schedule.specs.KeySizes.{nk, nr}
-use Rattle.aes_key_schedule.specs.RoundKey.{roundKey}
+use Rattle.aes_key_expansion.specs.KeySizes.{nk, nr}
+use Rattle.aes_key_expansion.specs.RoundKey.{roundKey}
 use Rattle.aes_key_expansion.specs.KeyExpansion.{rotWord, xPower, rcon, temp, keyWord, nextWord, words, keyExpansion, schedule}
-use Rattle.aes_key_schedule.specs.declared.KeySize.{KeySize}
+use Rattle.aes_key_expansion.specs.declared.KeySize.{KeySize}
 use Rattle.aes_key_expansion.proofs.Schedule.{length-words}
 
 record IsWord (a : Word) : Type 0 where

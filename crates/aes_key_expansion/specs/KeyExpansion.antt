@@ -9,8 +9,8 @@ use Rattle.octets.specs.Choice.{if_then_else_}
 use Rattle.aes_gf.specs.Field.{xTimes}
 use Rattle.aes_state.specs.State.{Word, word, addWord}
 use Rattle.aes_sub_bytes.specs.SubBytes.{subWord}
-use Rattle.aes_key_schedule.specs.KeySizes.{nk, nr}
-use Rattle.aes_key_schedule.specs.declared.KeySize.{KeySize}
+use Rattle.aes_key_expansion.specs.KeySizes.{nk, nr}
+use Rattle.aes_key_expansion.specs.declared.KeySize.{KeySize}
 
 -- RotWord([a0, a1, a2, a3]) = [a1, a2, a3, a0]
 abbrev pub rotWord : Word → Word

@@ -2,8 +2,8 @@
 use aes_gf::x_times;
 ghost use mathlib.Core.Path.{_≡_};
 ghost use Rattle.aes_gf.specs.Field.{_•_};
-ghost use Rattle.aes_columns.specs.MixColumn.{mixColumn};
-ghost use Rattle.aes_columns.specs.MixColumns.{mixColumns};
+ghost use Rattle.aes_mix_columns.specs.MixColumn.{mixColumn, invMixColumn};
+ghost use Rattle.aes_mix_columns.specs.MixColumns.{mixColumns, invMixColumns};
 
 // The products of MixColumns.
 fn times_02(a: u8) -> u8
@@ -39,5 +39,68 @@ pub fn mix_columns(s: [[u8; 4]; 4]) -> [[u8; 4]; 4]
         mix_column(s[1]),
         mix_column(s[2]),
         mix_column(s[3]),
+    ]
+}
+
+// ---- InvMixColumns (FIPS 197, 5.3.3): each entry is its row of products.
+
+// The products of InvMixColumns, by repeated doubling.
+fn times_09(a: u8) -> u8
+    ensures { λ result. ⌜ result ≡ 0x09 • a ⌝ }
+{
+    let a2 = x_times(a);
+    let a4 = x_times(a2);
+    let a8 = x_times(a4);
+    a8 ^ a
+}
+
+fn times_0b(a: u8) -> u8
+    ensures { λ result. ⌜ result ≡ 0x0b • a ⌝ }
+{
+    let a2 = x_times(a);
+    let a4 = x_times(a2);
+    let a8 = x_times(a4);
+    a8 ^ a2 ^ a
+}
+
+fn times_0d(a: u8) -> u8
+    ensures { λ result. ⌜ result ≡ 0x0d • a ⌝ }
+{
+    let a2 = x_times(a);
+    let a4 = x_times(a2);
+    let a8 = x_times(a4);
+    a8 ^ a4 ^ a
+}
+
+fn times_0e(a: u8) -> u8
+    ensures { λ result. ⌜ result ≡ 0x0e • a ⌝ }
+{
+    let a2 = x_times(a);
+    let a4 = x_times(a2);
+    let a8 = x_times(a4);
+    a8 ^ a4 ^ a2
+}
+
+// FIPS 197, 5.3.3: one column.
+fn inv_mix_column(s: [u8; 4]) -> [u8; 4]
+    ensures { λ result. ⌜ result ≡ invMixColumn s ⌝ }
+{
+    [
+        times_0e(s[0]) ^ times_0b(s[1]) ^ times_0d(s[2]) ^ times_09(s[3]),
+        times_09(s[0]) ^ times_0e(s[1]) ^ times_0b(s[2]) ^ times_0d(s[3]),
+        times_0d(s[0]) ^ times_09(s[1]) ^ times_0e(s[2]) ^ times_0b(s[3]),
+        times_0b(s[0]) ^ times_0d(s[1]) ^ times_09(s[2]) ^ times_0e(s[3]),
+    ]
+}
+
+// FIPS 197, 5.3.3: InvMixColumns.
+pub fn inv_mix_columns(s: [[u8; 4]; 4]) -> [[u8; 4]; 4]
+    ensures { λ result. ⌜ result ≡ invMixColumns s ⌝ }
+{
+    [
+        inv_mix_column(s[0]),
+        inv_mix_column(s[1]),
+        inv_mix_column(s[2]),
+        inv_mix_column(s[3]),
     ]
 }

@@ -8,7 +8,7 @@ use session::Session;
 use session_bytes::SIZE;
 ghost use mathlib.Core.Path.{_≡_};
 ghost use lib.ListN.{length};
-ghost use Rattle.session_stored_keys.specs.StoredKeys.{KeysOfBytes, keys};
+ghost use Rattle.session_suite.specs.StoredKeys.{KeysOfBytes, keys};
 ghost use Rattle.session.specs.declared.Side.the-variants.{Host, Card};
 ghost use Rattle.message_answer.specs.Answer.{buffer};
 ghost use Rattle.capi_open.specs.OpenOn.{openOn, openGives, bytesOf};

@@ -1,1 +1,3 @@
 pub mod FragmentCases
+pub mod Apdus
+pub mod Parts

@@ -1,7 +1,7 @@
 // The tests of a command fragment before it is written, in their order (document 01, "The wire").
+use crate::part::apdu_length;
+use crate::part::fragment_count;
 use chain_command::FragmentAnswer;
-use chain_command_parts::apdu_length;
-use chain_command_parts::fragment_count;
 use refusal::Refusal;
 ghost use mathlib.Core.Path.{_≡_};
 ghost use Rattle.chain_command.specs.Apdu.{Header};

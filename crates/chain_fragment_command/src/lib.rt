@@ -1,10 +1,12 @@
 // The host fragments a command field: the APDU of one fragment a call (document 01, "The wire"; SP 800-73-4 Part 2, 4.2.4).
+mod apdu;
 mod checks;
+mod part;
 
-use chain_apdu_write::put_apdu;
+use apdu::put_apdu;
 use chain_command::FragmentAnswer;
-use chain_command_parts::fragment_part;
 use checks::fragment_checks;
+use part::fragment_part;
 ghost use mathlib.Core.Path.{_≡_};
 ghost use Prim.Native.Nat.{_<_, _≤_};
 ghost use lib.ListN.{length};

@@ -1,1 +1,2 @@
 pub mod FragmentCases
+pub mod Parts

@@ -1,6 +1,6 @@
 // The tests of a response fragment before it is written, in their order (document 01, "The wire").
+use crate::part::next;
 use chain_response::ResponseFragmentAnswer;
-use chain_response_parts::next;
 use message_permission::status_permitted;
 use refusal::Refusal;
 ghost use mathlib.Core.Path.{_≡_};

@@ -1,11 +1,12 @@
 // The card fragments a response field: one fragment with its status word a call (document 01, "The wire"; ISO/IEC 7816-4).
 mod checks;
+mod part;
 
 use chain_response::ResponseFragmentAnswer;
-use chain_response_parts::next;
-use chain_response_parts::put_status;
 use checks::fragment_checks;
 use octets::put_bytes;
+use part::next;
+use part::put_status;
 ghost use mathlib.Core.Path.{_≡_};
 ghost use mathlib.Core.List.{_++_};
 ghost use Prim.Native.Nat.{_+_, _-_, _≤_};

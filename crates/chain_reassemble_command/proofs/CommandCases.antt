@@ -15,7 +15,7 @@ use Rattle.chain_command.specs.Apdu.{headerOf, lc, dataOf, isLast}
 use Rattle.chain_command.specs.Reassembly.{empty, total, reassemblyChecks, taken, concluded, reassembleCommand, written, reassemblyBuffer}
 use Rattle.chain_command.specs.declared.CommandChain.{CommandChain}
 use Rattle.chain_command.specs.declared.ReassemblyAnswer.the-variants.{Refused as NotTaken}
-use Rattle.chain_apdu_read.proofs.Shapes.{holds-data}
+use Rattle.chain_reassemble_command.proofs.Shapes.{holds-data}
 
 -- the data stands in the APDU, and there is room for it
 pub record MayTake (c : CommandChain) (apdu : Bytes) (room : ℕ) : Type 0 where

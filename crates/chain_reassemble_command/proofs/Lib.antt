@@ -1,1 +1,3 @@
 pub mod CommandCases
+pub mod Shapes
+pub mod CommandTests

@@ -1,10 +1,13 @@
 // A command field is put together again from its fragments (document 01, "The wire").
-use chain_apdu_read::is_last;
-use chain_apdu_read::lc;
+mod apdu;
+mod checks;
+
+use apdu::is_last;
+use apdu::lc;
 use chain_command::CommandChain;
 use chain_command::Reassembly;
 use chain_command::ReassemblyAnswer;
-use chain_reassemble_command_checks::reassembly_checks;
+use checks::reassembly_checks;
 use message_result::Checked;
 use octets::put_bytes;
 ghost use mathlib.Core.Path.{_≡_};

@@ -14,7 +14,7 @@ use Rattle.message_result.proofs.Checks.{was-passed, was-refused}
 use Rattle.chain_response.specs.Reassembly.{dataOf, statusOf, isMore, empty, total, reassemblyChecks, taken, concluded, reassembleResponse, written, reassemblyBuffer}
 use Rattle.chain_response.specs.declared.ResponseChain.{ResponseChain}
 use Rattle.chain_response.specs.declared.ResponseReassemblyAnswer.the-variants.{Refused as NotTaken}
-use Rattle.chain_reassemble_response_checks.proofs.ResponseTests.{has-status}
+use Rattle.chain_reassemble_response.proofs.ResponseTests.{has-status}
 
 -- it has a whole status word, and there is room for its data
 pub record MayTake (c : ResponseChain) (bytes : Bytes) (room : ℕ) : Type 0 where

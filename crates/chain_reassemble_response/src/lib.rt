@@ -1,9 +1,11 @@
 // A response field is put together again from its fragments (document 01, "The wire").
-use chain_reassemble_response_checks::is_more;
-use chain_reassemble_response_checks::reassembly_checks;
+mod checks;
+
 use chain_response::ResponseChain;
 use chain_response::ResponseReassembly;
 use chain_response::ResponseReassemblyAnswer;
+use checks::is_more;
+use checks::reassembly_checks;
 use message_result::Checked;
 use octets::put_bytes;
 ghost use mathlib.Core.Path.{_≡_};

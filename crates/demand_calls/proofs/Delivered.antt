@@ -3,7 +3,7 @@
 use mathlib.Core.Path.{_≡_, sym, ap, ap₂, subst, _∙_}
 use lib.ListN.{length}
 use Rattle.octets.specs.Bytes.{Bytes}
-use Rattle.session_stored_keys.specs.StoredKeys.{keyIn}
+use Rattle.session_suite.specs.StoredKeys.{keyIn}
 use Rattle.session.specs.Opening.{opening}
 use Rattle.session_suite.specs.declared.Suite.{Suite}
 use Rattle.session.specs.declared.Side.the-variants.{Host, Card}

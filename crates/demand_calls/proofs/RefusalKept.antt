@@ -12,7 +12,7 @@ use Rattle.refusal.specs.declared.Refusal.{Refusal}
 use Rattle.refusal.specs.declared.Refusal.the-variants.{UnknownSuite, BadKeyLength}
 use Rattle.session_suite.specs.Suites.{keyLength, suiteOf}
 use Rattle.session.specs.Session.{fresh, noSession}
-use Rattle.session_stored_keys.specs.StoredKeys.{stored, Keys, keysFit}
+use Rattle.session_suite.specs.StoredKeys.{stored, Keys, keysFit}
 use Rattle.session.specs.Opening.{notOpened, openSuite, opening}
 use Rattle.session.specs.declared.Side.{Side}
 use Rattle.session.specs.declared.Side.the-variants.{Host, Card}

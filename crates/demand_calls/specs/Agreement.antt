@@ -11,7 +11,7 @@ use mathlib.Core.Logic.{_⊎_}
 use mathlib.Core.List.{List, [], _∷_, map}
 use Prim.Native.Nat.{ℕ}
 use lib.ListN.{take}
-use Rattle.session_stored_keys.specs.StoredKeys.{Keys}
+use Rattle.session_suite.specs.StoredKeys.{Keys}
 use Rattle.session.specs.declared.Opening.the-variants.{Opened as Done}
 use Rattle.message_ciphers.specs.Aes.{aesCiphers}
 use Rattle.message_protocol.specs.Transcript.{State, sessionAt, moved, entered, start}

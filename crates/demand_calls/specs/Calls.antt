@@ -21,7 +21,7 @@ use Rattle.message_wrap_response.proofs.wrap_response.Kinds as wrap-response-ki
 use Rattle.message_unwrap_response.proofs.unwrap_response.Reads as unwrap-response
 use Rattle.message_unwrap_response.proofs.unwrap_response.Kinds as unwrap-response-kinds
 use Rattle.octets.specs.Bytes.{Bytes}
-use Rattle.session_stored_keys.specs.StoredKeys.{Keys, keys}
+use Rattle.session_suite.specs.StoredKeys.{Keys, keys}
 use Rattle.session.specs.declared.Side.{Side}
 use Rattle.session.specs.declared.Session.{Session}
 use Rattle.session.specs.declared.Opened.{Opened}

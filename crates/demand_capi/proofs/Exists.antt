@@ -6,7 +6,7 @@ use contract.Lifetimes.{Lfts}
 use denote.Ref.{now, at-last}
 use borrow.Fn.Kinds.{Dens}
 use Rattle.octets.specs.Bytes.{Bytes, IsBytes}
-use Rattle.session_stored_keys.specs.StoredKeys.{KeysOfBytes, keys}
+use Rattle.session_suite.specs.StoredKeys.{KeysOfBytes, keys}
 use Rattle.session.specs.declared.Side.the-variants.{Host, Card}
 use Rattle.message_answer.specs.Message.{Response, CommandGiven}
 use Rattle.message_answer.specs.Answer.{buffer}

@@ -16,8 +16,8 @@ use Rattle.session_suite.specs.Suites.{keyLength, suiteOf}
 use Rattle.session_suite.specs.declared.Suite.{Suite}
 use Rattle.session_suite.specs.declared.SuiteNumber.{SuiteNumber}
 use Rattle.session_suite.specs.declared.SuiteNumber.the-variants.{Known, Unknown}
-use Rattle.session_stored_keys.specs.StoredKeys.{stored, Keys, keysFit}
-use Rattle.session_stored_keys.proofs.StoredKeys.{key-length-most, fitting}
+use Rattle.session_suite.specs.StoredKeys.{stored, Keys, keysFit}
+use Rattle.session_suite.proofs.StoredKeys.{key-length-most, fitting}
 use Rattle.session.specs.Opening.{openSuite, opening}
 use Rattle.session.specs.declared.Side.{Side}
 use Rattle.session.specs.declared.Session.{Session}

@@ -18,7 +18,7 @@ use Rattle.refusal.specs.declared.Refusal.the-variants.{SessionClosed, OutOfTur
 use Rattle.session_suite.specs.Suites.{keyLength, suiteOf}
 use Rattle.session_suite.specs.declared.SuiteNumber.{SuiteNumber}
 use Rattle.session_suite.specs.declared.SuiteNumber.the-variants.{Known, Unknown}
-use Rattle.session_stored_keys.specs.StoredKeys.{stored, Keys, keysFit}
+use Rattle.session_suite.specs.StoredKeys.{stored, Keys, keysFit}
 use Rattle.session.specs.Session.{fresh}
 use Rattle.session.specs.Opening.{notOpened, openSuite, opening}
 use Rattle.session.specs.declared.Side.{Side}

@@ -14,7 +14,7 @@ use Prim.Native.Nat.{ℕ}
 use lib.Dec.{eqb}
 use lib.ListN.{length, take}
 use Rattle.octets.specs.Bytes.{Bytes}
-use Rattle.session_stored_keys.specs.StoredKeys.{Keys}
+use Rattle.session_suite.specs.StoredKeys.{Keys}
 use Rattle.session.specs.Opening.{opening}
 use Rattle.session.specs.declared.Side.{Side}
 use Rattle.session.specs.declared.Side.the-variants.{Host, Card}

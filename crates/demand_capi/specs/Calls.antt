@@ -24,7 +24,7 @@ use Rattle.capi_unwrap_response.proofs.pivsm_unwrap_response.Reads as unwrap-re
 use Rattle.capi_unwrap_response.proofs.pivsm_unwrap_response.Kinds as unwrap-response-kinds
 use Rattle.octets.specs.Bytes.{Bytes}
 use Rattle.refusal.specs.declared.Refusal.the-variants.{BadSession}
-use Rattle.session_stored_keys.specs.StoredKeys.{Keys, keys}
+use Rattle.session_suite.specs.StoredKeys.{Keys, keys}
 use Rattle.session.specs.declared.Side.{Side}
 use Rattle.message_answer.specs.Answer.{Answer, refused, gave}
 use Rattle.message_protocol.specs.Transcript.{Call, wrapCommand, unwrapCommand, wrapResponse, unwrapResponse, close, Gives}

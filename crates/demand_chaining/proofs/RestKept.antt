@@ -24,7 +24,7 @@ use Rattle.chain_command.specs.declared.Reassembly.{Reassembly}
 use Rattle.chain_command.specs.declared.FragmentAnswer.{FragmentAnswer}
 use Rattle.chain_command.specs.declared.FragmentAnswer.the-variants.{Refused as NotFragmented}
 use Rattle.chain_command.specs.declared.ReassemblyAnswer.the-variants.{Refused as NotReassembled}
-use Rattle.chain_apdu_read.proofs.Shapes.{holds-data}
+use Rattle.chain_reassemble_command.proofs.Shapes.{holds-data}
 use Rattle.chain_response.specs.Fragment.{fragmentAnswer as responseFragmentAnswer}
 use Rattle.chain_response.specs.Reassembly.{statusOf, isMore, dataLength, dataOf as responseData, wellFormed as responseWellFormed, possible as responsePossible, total as responseTotal, reassemblyChecks as responseChecks, taken as responseTaken, concluded as responseConcluded, reassembleResponse, written as responseWritten, reassemblyBuffer as responseBuffer}
 use Rattle.chain_response.specs.declared.ResponseChain.{ResponseChain}

@@ -12,15 +12,15 @@ use Rattle.octets.specs.Bytes.{Bytes}
 use Rattle.octets.specs.Choice.{if_then_else_}
 use Rattle.field_expected.specs.Wanted.{lacks, tagOf, needOf, rank}
 use Rattle.field_object.specs.Object.{readObject}
-use Rattle.field_walk.specs.Field.{none, noted, ended, onObject, walk, readField}
+use Rattle.field_read.specs.Field.{none, noted, ended, onObject, walk, readField}
 use Rattle.field_expected.specs.declared.Second.{Second}
 use Rattle.field_expected.specs.declared.Wanted.{Wanted}
 use Rattle.field_object.specs.declared.Breach.{Breach}
 use Rattle.field_object.specs.declared.DataObject.{DataObject}
 use Rattle.field_object.specs.declared.ObjectRead.{ObjectRead}
 use Rattle.field_object.specs.declared.ObjectRead.the-variants.{Object, Malformed}
-use Rattle.field_walk.specs.declared.Objects.{Objects}
-use Rattle.field_walk.specs.declared.FieldRead.the-variants.{Read, Malformed as BadField, Missing}
+use Rattle.field_read.specs.declared.Objects.{Objects}
+use Rattle.field_read.specs.declared.FieldRead.the-variants.{Read, Malformed as BadField, Missing}
 use Rattle.field_object.proofs.Inversion.{Stands, stands, later, rank-most}
 
 -- an object of that tag stands from at to next and takes the objects from o to o'

@@ -13,14 +13,14 @@ use Rattle.octets.specs.Bytes.{Bytes}
 use Rattle.octets.specs.Choice.{if_then_else_}
 use Rattle.octets.proofs.Tests.{both}
 use Rattle.field_expected.specs.Wanted.{may, lacks, tagOf, needOf, rank, allowed, suits}
-use Rattle.field_object_rules.specs.Values.{rightSize}
-use Rattle.field_walk.specs.Field.{none, readField, ciphertextOf}
+use Rattle.field_object.specs.Values.{rightSize}
+use Rattle.field_read.specs.Field.{none, readField, ciphertextOf}
 use Rattle.field_expected.specs.declared.Need.{Need}
 use Rattle.field_expected.specs.declared.Need.the-variants.{Must, May, MustNot}
 use Rattle.field_expected.specs.declared.Wanted.{Wanted}
 use Rattle.field_object.specs.declared.DataObject.{DataObject}
-use Rattle.field_walk.specs.declared.Objects.{Objects}
-use Rattle.field_walk.specs.declared.FieldRead.the-variants.{Read}
+use Rattle.field_read.specs.declared.Objects.{Objects}
+use Rattle.field_read.specs.declared.FieldRead.the-variants.{Read}
 use Rattle.field_laws.specs.Written.{Conforms}
 use Rattle.field_laws.proofs.Noted.{not-data, not-mac}
 use Rattle.field_laws.proofs.Acceptance.{Optional, all-there}

@@ -8,7 +8,7 @@ use borrow.Author.Tests.{eq-eqb, le-leb}
 use lib.ListN.{length}
 use Rattle.octets.specs.Bytes.{Bytes, zeros}
 use Rattle.field_write.specs.Objects.{commandObjects, responseObjects, commandField, responseField}
-use Rattle.field_object_rules.specs.Values.{rightSize}
+use Rattle.field_object.specs.Values.{rightSize}
 use Rattle.field_expected.specs.declared.Need.the-variants.{May}
 use Rattle.field_expected.specs.declared.Second.{Second}
 use Rattle.field_expected.specs.declared.Second.the-variants.{Le, Status}

@@ -15,14 +15,14 @@ use Rattle.field_ber_length.specs.Length.{readLength}
 use Rattle.field_ber_length.specs.declared.LengthRead.the-variants.{Length}
 use Rattle.field_ber_length.proofs.LengthForms.{read-prefix}
 use Rattle.field_expected.specs.Wanted.{lacks, tagOf, needOf}
-use Rattle.field_object_rules.specs.Values.{sizeOf, rightSize, rightSecond, rightValue}
-use Rattle.field_walk.specs.Field.{none, readField, ciphertextOf, coveredOf}
+use Rattle.field_object.specs.Values.{sizeOf, rightSize, rightSecond, rightValue}
+use Rattle.field_read.specs.Field.{none, readField, ciphertextOf, coveredOf}
 use Rattle.field_expected.specs.declared.Second.{Second}
 use Rattle.field_expected.specs.declared.Second.the-variants.{Status}
 use Rattle.field_expected.specs.declared.Wanted.{Wanted}
 use Rattle.field_object.specs.declared.DataObject.{DataObject}
-use Rattle.field_walk.specs.declared.Objects.{Objects}
-use Rattle.field_walk.specs.declared.FieldRead.the-variants.{Read}
+use Rattle.field_read.specs.declared.Objects.{Objects}
+use Rattle.field_read.specs.declared.FieldRead.the-variants.{Read}
 use Rattle.field_object.proofs.Inversion.{some-byte}
 use Rattle.field_laws.specs.Covered.{dataBehind, endBehind, dataIn, dataEnd, secondIn, sw1In, sw2In, Determined}
 use Rattle.field_laws.proofs.Noted.{not-data, not-mac, noted-data, noted-mac, noted-second}

@@ -6,11 +6,11 @@ use Prim.Native.Nat.{_+_, _-_}
 use native.Mathlib.Omega.{arith}
 use borrow.Author.Tests.{eq-eqb, ne-eqb}
 use Rattle.field_expected.specs.Wanted.{tagOf, rank}
-use Rattle.field_walk.specs.Field.{noted}
+use Rattle.field_read.specs.Field.{noted}
 use Rattle.field_expected.specs.declared.Second.{Second}
 use Rattle.field_expected.specs.declared.Second.the-variants.{Le, Status}
 use Rattle.field_object.specs.declared.DataObject.{DataObject}
-use Rattle.field_walk.specs.declared.Objects.{Objects}
+use Rattle.field_read.specs.declared.Objects.{Objects}
 
 pub not-data : (second : Second) → tagOf second ≡ 0x87 → ⊥
 not-data (Le need) q = omega arith

@@ -19,20 +19,20 @@ use Rattle.field_ber_length.specs.declared.LengthRead.the-variants.{Length}
 use Rattle.field_ber_length.proofs.LengthForms.{read-written, written-shortest}
 use Rattle.field_write.specs.Objects.{object, encryptedData, leObject, statusWord, macObject, commandObjects, responseObjects, commandField, responseField}
 use Rattle.field_expected.specs.Wanted.{may, lacks, tagOf, needOf, rank, allowed, suits}
-use Rattle.field_object_rules.specs.Values.{sizeOf, rightSize, rightSecond, rightValue}
+use Rattle.field_object.specs.Values.{sizeOf, rightSize, rightSecond, rightValue}
 use Rattle.field_object.specs.Object.{readObject}
-use Rattle.field_walk.specs.Field.{none, noted, ended, walk, readField}
+use Rattle.field_read.specs.Field.{none, noted, ended, walk, readField}
 use Rattle.field_expected.specs.declared.Need.{Need}
 use Rattle.field_expected.specs.declared.Need.the-variants.{Must, May, MustNot}
 use Rattle.field_expected.specs.declared.Second.{Second}
 use Rattle.field_expected.specs.declared.Second.the-variants.{Le, Status}
 use Rattle.field_expected.specs.declared.Wanted.{Wanted}
-use Rattle.field_walk.specs.declared.Objects.{Objects}
+use Rattle.field_read.specs.declared.Objects.{Objects}
 use Rattle.field_object.specs.declared.DataObject.{DataObject}
 use Rattle.field_object.specs.declared.ObjectRead.the-variants.{Object}
-use Rattle.field_walk.specs.declared.FieldRead.the-variants.{Read}
+use Rattle.field_read.specs.declared.FieldRead.the-variants.{Read}
 use Rattle.field_object.proofs.ObjectCases.{whole-object}
-use Rattle.field_walk.proofs.Walk.{walk-end, walk-object}
+use Rattle.field_read.proofs.Walk.{walk-end, walk-object}
 use Rattle.field_write.proofs.FieldLengths.{mac-bytes, no-data}
 use Rattle.field_laws.specs.Written.{Suits, ReadsBack}
 use Rattle.field_laws.proofs.Noted.{not-data, not-mac, noted-data, noted-mac, noted-second, rank-data, rank-second, rank-mac}

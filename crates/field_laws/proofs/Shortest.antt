@@ -17,14 +17,14 @@ use Rattle.field_ber_length.specs.Length.{lengthField}
 use Rattle.field_ber_length.proofs.LengthForms.{read-shortest}
 use Rattle.field_write.specs.Objects.{object, encryptedData, leObject, statusWord, commandObjects, responseObjects}
 use Rattle.field_expected.specs.Wanted.{tagOf}
-use Rattle.field_object_rules.specs.Values.{sizeOf, rightSize, rightSecond, rightValue}
-use Rattle.field_walk.specs.Field.{none, readField, ciphertextOf, coveredOf}
+use Rattle.field_object.specs.Values.{sizeOf, rightSize, rightSecond, rightValue}
+use Rattle.field_read.specs.Field.{none, readField, ciphertextOf, coveredOf}
 use Rattle.field_expected.specs.declared.Need.{Need}
 use Rattle.field_expected.specs.declared.Second.{Second}
 use Rattle.field_expected.specs.declared.Second.the-variants.{Le, Status}
 use Rattle.field_expected.specs.declared.Wanted.{Wanted}
-use Rattle.field_walk.specs.declared.Objects.{Objects}
-use Rattle.field_walk.specs.declared.FieldRead.the-variants.{Read}
+use Rattle.field_read.specs.declared.Objects.{Objects}
+use Rattle.field_read.specs.declared.FieldRead.the-variants.{Read}
 use Rattle.field_laws.proofs.Acceptance.{Part, Optional}
 use Rattle.field_laws.proofs.Determined.{next-of, second-size, second-value, status-value, parts, inside, cut, second-there, status-there, data-start-of, data-length-of, data-noted, optional-behind}
 

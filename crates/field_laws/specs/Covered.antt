@@ -10,10 +10,10 @@ use Rattle.octets.specs.Choice.{if_then_else_}
 use Rattle.field_ber_length.specs.Length.{readLength}
 use Rattle.field_ber_length.specs.declared.LengthRead.{LengthRead}
 use Rattle.field_ber_length.specs.declared.LengthRead.the-variants.{Length, BadForm}
-use Rattle.field_walk.specs.Field.{ciphertextOf, coveredOf}
+use Rattle.field_read.specs.Field.{ciphertextOf, coveredOf}
 use Rattle.field_expected.specs.declared.Second.the-variants.{Status}
 use Rattle.field_expected.specs.declared.Wanted.{Wanted}
-use Rattle.field_walk.specs.declared.Objects.{Objects}
+use Rattle.field_read.specs.declared.Objects.{Objects}
 
 -- the encrypted data of an '87' whose length was read: behind tag, length field and indicator byte
 unfoldable pub dataBehind : Bytes → LengthRead → Bytes

@@ -6,11 +6,11 @@ use lib.Dec.{ltb}
 use lib.ListN.{length}
 use Rattle.octets.specs.Bytes.{Bytes}
 use Rattle.field_expected.specs.Wanted.{needOf, suits}
-use Rattle.field_object_rules.specs.Values.{rightSize}
-use Rattle.field_walk.specs.Field.{readField, ciphertextOf, coveredOf, macOf}
+use Rattle.field_object.specs.Values.{rightSize}
+use Rattle.field_read.specs.Field.{readField, ciphertextOf, coveredOf, macOf}
 use Rattle.field_expected.specs.declared.Wanted.{Wanted}
-use Rattle.field_walk.specs.declared.Objects.{Objects}
-use Rattle.field_walk.specs.declared.FieldRead.the-variants.{Read}
+use Rattle.field_read.specs.declared.Objects.{Objects}
+use Rattle.field_read.specs.declared.FieldRead.the-variants.{Read}
 
 -- encrypted data: nothing, or whole blocks up to a limit
 abbrev pub WholeBlocks : ℕ → Bytes → Type 0

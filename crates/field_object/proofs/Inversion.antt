@@ -14,7 +14,7 @@ use Rattle.field_ber_length.specs.Length.{readLength, isShortest}
 use Rattle.field_ber_length.specs.declared.LengthRead.{LengthRead}
 use Rattle.field_ber_length.specs.declared.LengthRead.the-variants.{Length, BadForm}
 use Rattle.field_expected.specs.Wanted.{tagOf, rank, may, needOf, allowed}
-use Rattle.field_object_rules.specs.Values.{sizeOf, rightSize, rightValue}
+use Rattle.field_object.specs.Values.{sizeOf, rightSize, rightValue}
 use Rattle.field_object.specs.Object.{readObject}
 use Rattle.field_expected.specs.declared.Second.{Second}
 use Rattle.field_expected.specs.declared.Second.the-variants.{Le, Status}

@@ -1,2 +1,3 @@
 pub mod Object
 pub mod Step
+pub mod Values

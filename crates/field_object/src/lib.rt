@@ -1,11 +1,13 @@
 // One data object of a field, read at an index (SP 800-73-4 Part 2, 4.2; document 01, "Objects, encryption and MAC").
+mod rules;
+
 use field_ber_length::LengthRead;
 use field_ber_length::is_shortest;
 use field_ber_length::read_length;
 use field_expected::Wanted;
-use field_object_rules::right_size;
-use field_object_rules::right_value;
-use field_order::allowed;
+use field_expected::allowed;
+use rules::right_size;
+use rules::right_value;
 ghost use mathlib.Core.Path.{_≡_};
 ghost use Prim.Native.Nat.{_<_};
 ghost use lib.ListN.{length};

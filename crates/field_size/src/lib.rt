@@ -6,7 +6,7 @@ ghost use Prim.Native.Nat.{_<_};
 ghost use Rattle.field_size.specs.Lengths.{ciphertextLength, encryptedDataLength, commandLength, responseLength};
 
 // The length of the encrypted form of p bytes of data.
-pub fn ciphertext_length(p: usize) -> usize
+fn ciphertext_length(p: usize) -> usize
     requires { ⌜ p < 65536 ⌝ }
     ensures { λ r. ⌜ r ≡ ciphertextLength p ⌝ }
 {

@@ -15,7 +15,7 @@ use Rattle.field_padding.specs.Padding.{pad, paddedLength, unpad}
 use Rattle.field_padding.proofs.Lengths.{length-pad}
 use Rattle.field_size.specs.Lengths.{ciphertextLength}
 use Rattle.aes_key_expansion.specs.KeyExpansion.{schedule}
-use Rattle.aes_key_schedule.specs.declared.KeySize.the-variants.{Aes128, Aes256}
+use Rattle.aes_key_expansion.specs.declared.KeySize.the-variants.{Aes128, Aes256}
 use Rattle.aes.specs.Aes.{aes}
 use Rattle.aes.specs.BlockCipher.{IsBlock, BlockCipher}
 use Rattle.aes.proofs.Block.{length-ciph}

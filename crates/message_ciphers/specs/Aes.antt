@@ -9,8 +9,8 @@ use Rattle.field_padding.specs.Padding.{pad, unpad}
 use Rattle.field_padding.specs.declared.Unpadded.{Unpadded}
 use Rattle.field_padding.specs.declared.Unpadded.the-variants.{Data, BadPadding}
 use Rattle.aes.specs.Aes.{aes, invAes}
-use Rattle.aes_key_schedule.specs.declared.KeySize.{KeySize}
-use Rattle.aes_key_schedule.specs.declared.KeySize.the-variants.{Aes128, Aes256}
+use Rattle.aes_key_expansion.specs.declared.KeySize.{KeySize}
+use Rattle.aes_key_expansion.specs.declared.KeySize.the-variants.{Aes128, Aes256}
 use Rattle.mode_cbc.specs.Cbc.{cbcEncrypt, cbcDecrypt}
 use Rattle.mode_cmac.specs.Cmac.{cmac}
 use Rattle.message_ciphers.specs.Ciphers.{Ciphers}

@@ -22,7 +22,7 @@ use Rattle.aes.specs.Aes.{ciph as scheduleCiph}
 use Rattle.aes.proofs.Block.{length-ciph}
 use Rattle.mode_cbc.specs.Cbc.{cbcEncrypt}
 use Rattle.mode_cbc.proofs.RoundTrip.{length-cbc}
-use Rattle.session_stored_keys.specs.StoredKeys.{keyIn}
+use Rattle.session_suite.specs.StoredKeys.{keyIn}
 use Rattle.session_suite.specs.declared.Suite.{Suite}
 use Rattle.message_ciphers.specs.Aes.{encrypt}
 use Rattle.message_key.specs.SessionKeys.{keySize}

@@ -13,7 +13,7 @@ use Rattle.field_padding.specs.Padding.{paddedLength}
 use Rattle.field_write.specs.Objects.{encryptedData, commandObjects, responseObjects}
 use Rattle.field_size.specs.Lengths.{ciphertextLength, encryptedDataLength, commandLength, responseLength}
 use Rattle.field_write.proofs.FieldLengths.{length-encryptedData, length-leObject, length-commandObjects, length-responseObjects}
-use Rattle.session_stored_keys.specs.StoredKeys.{keyIn}
+use Rattle.session_suite.specs.StoredKeys.{keyIn}
 use Rattle.session_suite.specs.declared.Suite.{Suite}
 use Rattle.message_ciphers.specs.Aes.{encrypt}
 use Rattle.message_encrypt.proofs.Encrypted.{length-encrypt}

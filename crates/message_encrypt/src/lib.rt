@@ -1,6 +1,6 @@
 // The data of a message, padded and encrypted under the counter of its number (SP 800-73-4 Part 2, 4.2.2).
 use aes::encrypt_block;
-use aes_key_schedule::KeySize;
+use aes_key_expansion::KeySize;
 use field_padding::put_padding;
 use message_key::expanded;
 use message_key::key_size;
@@ -11,7 +11,7 @@ ghost use lib.ListN.{length, take};
 ghost use mathlib.Core.Path.{_≡_};
 ghost use Rattle.octets.specs.Write.{Wrote, over};
 ghost use Rattle.field_size.specs.Lengths.{ciphertextLength};
-ghost use Rattle.session_stored_keys.specs.StoredKeys.{keyIn};
+ghost use Rattle.session_suite.specs.StoredKeys.{keyIn};
 ghost use Rattle.message_ciphers.specs.Aes.{encrypt};
 ghost use Rattle.field_padding.specs.Padding.{pad, paddedLength};
 ghost use Rattle.aes.specs.Aes.{ciph};

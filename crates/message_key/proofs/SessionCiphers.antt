@@ -5,11 +5,11 @@ use native.Mathlib.Omega.{arith}
 use lib.ListN.{length, take}
 use lib.Seq.{length-take-le}
 use Rattle.octets.specs.Bytes.{Bytes}
-use Rattle.aes_key_schedule.specs.declared.KeySize.{KeySize}
+use Rattle.aes_key_expansion.specs.declared.KeySize.{KeySize}
 use Rattle.aes_key_expansion.specs.KeyExpansion.{schedule}
 use Rattle.aes_key_expansion.proofs.KeyStart.{schedule-start}
 use Rattle.aes.specs.Aes.{aes, invAes, ciph as scheduleCiph, invCiph as scheduleInvCiph}
-use Rattle.session_stored_keys.specs.StoredKeys.{keyIn}
+use Rattle.session_suite.specs.StoredKeys.{keyIn}
 use Rattle.session_suite.specs.declared.Suite.{Suite}
 use Rattle.session_suite.specs.declared.Suite.the-variants.{Cs2, Cs7}
 use Rattle.message_ciphers.specs.Aes.{sizeOf, ciph, invCiph}

@@ -1,6 +1,6 @@
 // The session keys as AES takes them.
+use aes_key_expansion::KeySize;
 use aes_key_expansion::key_expansion;
-use aes_key_schedule::KeySize;
 use session_suite::Suite;
 ghost use mathlib.Core.Path.{_≡_};
 ghost use Rattle.aes_key_expansion.specs.KeyExpansion.{schedule};

@@ -9,7 +9,7 @@ use Rattle.aes.specs.Aes.{ciph as scheduleCiph}
 use Rattle.mode_cmac.specs.Cmac.{cmac}
 use Rattle.mode_cmac.specs.Running.{start, absorb, finish}
 use Rattle.mode_cmac.proofs.Theorems.{absorb-append, cmac-aes}
-use Rattle.session_stored_keys.specs.StoredKeys.{keyIn}
+use Rattle.session_suite.specs.StoredKeys.{keyIn}
 use Rattle.session_suite.specs.declared.Suite.{Suite}
 use Rattle.message_ciphers.specs.Aes.{ciph}
 use Rattle.message_key.specs.SessionKeys.{keySize}

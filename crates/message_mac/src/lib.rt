@@ -9,7 +9,7 @@ ghost use Prim.Native.Nat.{_+_, _≤_};
 ghost use lib.ListN.{length, take, drop};
 ghost use Rattle.message_mac.specs.MacInput.{encodedHeader, responseMacInput, commandMacInput};
 ghost use Rattle.message_mac.specs.Same.{same};
-ghost use Rattle.session_stored_keys.specs.StoredKeys.{keyIn};
+ghost use Rattle.session_suite.specs.StoredKeys.{keyIn};
 ghost use Rattle.mode_cmac.specs.Cmac.{cmac};
 ghost use Rattle.message_ciphers.specs.Aes.{ciph};
 

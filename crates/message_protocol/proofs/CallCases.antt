@@ -11,13 +11,13 @@ use Rattle.message_answer.proofs.Required.{not-refused, require-gave}
 use Rattle.octets.proofs.Tests.{both}
 use Rattle.octets.specs.Bytes.{Bytes}
 use Rattle.message_mac.proofs.SameBytes.{same-eq}
-use Rattle.field_walk.specs.Field.{readField, ciphertextOf, coveredOf, macOf}
-use Rattle.field_walk.specs.declared.Objects.{Objects}
-use Rattle.field_walk.specs.declared.FieldRead.{FieldRead}
-use Rattle.field_walk.specs.declared.FieldRead.the-variants.{Read, Malformed as BadField, Missing}
+use Rattle.field_read.specs.Field.{readField, ciphertextOf, coveredOf, macOf}
+use Rattle.field_read.specs.declared.Objects.{Objects}
+use Rattle.field_read.specs.declared.FieldRead.{FieldRead}
+use Rattle.field_read.specs.declared.FieldRead.the-variants.{Read, Malformed as BadField, Missing}
 use Rattle.field_size.specs.Lengths.{commandLength, responseLength}
 use Rattle.refusal.specs.declared.Refusal.{Refusal}
-use Rattle.session_stored_keys.specs.StoredKeys.{keyIn}
+use Rattle.session_suite.specs.StoredKeys.{keyIn}
 use Rattle.session_turn.specs.Turn.{sameSide, samePhase, isTurn}
 use Rattle.session_rules.specs.Valid.{countsAsOpen}
 use Rattle.session.specs.declared.Side.{Side}

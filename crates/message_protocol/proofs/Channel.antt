@@ -16,7 +16,7 @@ use Rattle.field_padding.specs.Padding.{paddedLength}
 use Rattle.field_size.specs.Lengths.{ciphertextLength}
 use Rattle.message_mac.specs.MacInput.{commandMacInput, responseMacInput}
 use Rattle.field_laws.specs.Written.{WholeBlocks}
-use Rattle.session_stored_keys.specs.StoredKeys.{Keys}
+use Rattle.session_suite.specs.StoredKeys.{Keys}
 use Rattle.message_ciphers.specs.Ciphers.{Ciphers, Laws, IsKey, IsCounter}
 use Rattle.message_answer.specs.Message.{Message}
 use Rattle.message_counter.specs.Counter.{bigEndian, commandCounter, responseCounter}

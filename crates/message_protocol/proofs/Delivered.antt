@@ -15,8 +15,8 @@ use Rattle.octets.specs.Bytes.{Bytes, IsBytes}
 use Rattle.octets.specs.Choice.{if_then_else_}
 use Rattle.field_padding.specs.Padding.{paddedLength}
 use Rattle.message_mac.proofs.SameBytes.{same-self}
-use Rattle.field_walk.specs.Field.{ciphertextOf, coveredOf}
-use Rattle.field_walk.specs.declared.Objects.{Objects}
+use Rattle.field_read.specs.Field.{ciphertextOf, coveredOf}
+use Rattle.field_read.specs.declared.Objects.{Objects}
 use Rattle.field_write.specs.Objects.{commandObjects, responseObjects, commandField, responseField}
 use Rattle.message_mac.specs.MacInput.{responseMacInput}
 use Rattle.field_size.specs.Lengths.{ciphertextLength, encryptedDataLength, commandLength, responseLength}
@@ -28,7 +28,7 @@ use Rattle.field_laws.proofs.CoveredWritten.{right-size}
 use Rattle.field_laws.proofs.ReadBack.{read-command, read-response}
 use Rattle.refusal.specs.declared.Refusal.{Refusal}
 use Rattle.session.specs.Session.{fresh}
-use Rattle.session_stored_keys.specs.StoredKeys.{Keys, keysFit, stored, keyIn}
+use Rattle.session_suite.specs.StoredKeys.{Keys, keysFit, stored, keyIn}
 use Rattle.session_turn.specs.Transitions.{commandTaken, responseTaken}
 use Rattle.session_turn.specs.Turn.{sameSide, samePhase, isTurn}
 use Rattle.session.specs.declared.Side.{Side}

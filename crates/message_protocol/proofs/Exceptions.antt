@@ -7,7 +7,7 @@ use Prim.Native.Nat.{ℕ}
 use lib.ListN.{take}
 use Rattle.octets.specs.Bytes.{Bytes}
 use Rattle.refusal.specs.declared.Refusal.{Refusal}
-use Rattle.session_stored_keys.specs.StoredKeys.{Keys}
+use Rattle.session_suite.specs.StoredKeys.{Keys}
 use Rattle.session.specs.declared.Side.{Side}
 use Rattle.message_ciphers.specs.Ciphers.{Ciphers}
 use Rattle.message_answer.specs.Message.{StatusWord}

@@ -13,9 +13,9 @@ use lib.ListN.{length, take, length-append}
 use lib.Seq.{append-snoc}
 use Rattle.octets.proofs.Tests.{both}
 use Rattle.octets.specs.Bytes.{Bytes, IsBytes}
-use Rattle.field_walk.specs.Field.{readField, ciphertextOf, coveredOf}
-use Rattle.field_walk.specs.declared.Objects.{Objects}
-use Rattle.field_walk.specs.declared.FieldRead.the-variants.{Read}
+use Rattle.field_read.specs.Field.{readField, ciphertextOf, coveredOf}
+use Rattle.field_read.specs.declared.Objects.{Objects}
+use Rattle.field_read.specs.declared.FieldRead.the-variants.{Read}
 use Rattle.field_write.specs.Objects.{commandObjects, responseObjects, commandField, responseField}
 use Rattle.message_mac.specs.MacInput.{encodedHeader, commandMacInput, responseMacInput}
 use Rattle.field_laws.specs.Covered.{dataIn, secondIn, sw1In, sw2In}
@@ -24,7 +24,7 @@ use Rattle.field_laws.proofs.Determined.{determined}
 use Rattle.field_laws.proofs.CoveredWritten.{command-data, command-le, response-data, response-status}
 use Rattle.session.specs.Session.{closed}
 use Rattle.session_turn.specs.Transitions.{commandTaken, responseTaken}
-use Rattle.session_stored_keys.specs.StoredKeys.{keyIn, Keys}
+use Rattle.session_suite.specs.StoredKeys.{keyIn, Keys}
 use Rattle.session_rules.specs.Valid.{keepsPhase, valid, isOpen, countsAsOpen}
 use Rattle.session.specs.declared.Side.{Side}
 use Rattle.session.specs.declared.Side.the-variants.{Host, Card}

@@ -12,9 +12,9 @@ use Rattle.octets.specs.Bytes.{Bytes, zeros}
 use Rattle.refusal.specs.declared.Refusal.{Refusal}
 use Rattle.session_suite.specs.Suites.{keyLength, suiteOf}
 use Rattle.session.specs.Session.{fresh, closed}
-use Rattle.session_stored_keys.specs.StoredKeys.{stored, KeysOfBytes, Keys, keysFit}
+use Rattle.session_suite.specs.StoredKeys.{stored, KeysOfBytes, Keys, keysFit}
 use Rattle.session.specs.Opening.{openSuite, opening}
-use Rattle.session_stored_keys.proofs.StoredKeys.{fitting}
+use Rattle.session_suite.proofs.StoredKeys.{fitting}
 use Rattle.session.specs.declared.Side.{Side}
 use Rattle.session.specs.declared.Side.the-variants.{Host, Card}
 use Rattle.session.specs.declared.Phase.the-variants.{Ready, Pending}

@@ -7,8 +7,8 @@ use mathlib.Core.List.{List, [], _∷_, _++_, map, List·Memᴰ}
 use Prim.Native.Nat.{ℕ, _+_, _≤_, _<_}
 use lib.ListN.{length, take, getD}
 use Rattle.octets.specs.Bytes.{Bytes, IsBytes, zeros}
-use Rattle.field_walk.specs.Field.{macOf}
-use Rattle.session_stored_keys.specs.StoredKeys.{KeysOfBytes, Keys}
+use Rattle.field_read.specs.Field.{macOf}
+use Rattle.session_suite.specs.StoredKeys.{KeysOfBytes, Keys}
 use Rattle.session.specs.Opening.{opening}
 use Rattle.session.specs.declared.Side.the-variants.{Host, Card}
 use Rattle.session.specs.declared.Opening.the-variants.{Opened as Done}

@@ -6,7 +6,7 @@ use Prim.Native.Nat.{ℕ, _+_, _≤_, _<_}
 use lib.ListN.{length}
 use Rattle.octets.specs.Bytes.{Bytes, IsBytes}
 use Rattle.field_size.specs.Lengths.{ciphertextLength, commandLength, responseLength}
-use Rattle.session_stored_keys.specs.StoredKeys.{keyIn, KeysOfBytes, Keys}
+use Rattle.session_suite.specs.StoredKeys.{keyIn, KeysOfBytes, Keys}
 use Rattle.session_rules.specs.Valid.{countsAsOpen}
 use Rattle.session.specs.Opening.{opening}
 use Rattle.session.specs.declared.Opening.the-variants.{Opened as Done}

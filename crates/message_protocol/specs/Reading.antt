@@ -1,9 +1,9 @@
 -- The stages of an unwrap that read: the objects of the field, and the text. Assumes nothing.
 use mathlib.Core.Option.{Option, none, some}
 use Rattle.refusal.specs.declared.Refusal.the-variants.{Malformed, MissingObject, BadPadding}
-use Rattle.field_walk.specs.declared.Objects.{Objects}
-use Rattle.field_walk.specs.declared.FieldRead.{FieldRead}
-use Rattle.field_walk.specs.declared.FieldRead.the-variants.{Read, Malformed as BadField, Missing}
+use Rattle.field_read.specs.declared.Objects.{Objects}
+use Rattle.field_read.specs.declared.FieldRead.{FieldRead}
+use Rattle.field_read.specs.declared.FieldRead.the-variants.{Read, Malformed as BadField, Missing}
 use Rattle.message_answer.specs.Answer.{Answer, refused, gave}
 
 -- 7 at the first breach, 8 where an object is lacking at the end

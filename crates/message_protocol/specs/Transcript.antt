@@ -5,14 +5,14 @@ use mathlib.Core.List.{List, [], _∷_, _++_, map}
 use Prim.Native.Nat.{ℕ, suc}
 use lib.ListN.{length}
 use Rattle.octets.specs.Bytes.{Bytes, zeros}
-use Rattle.field_walk.specs.Field.{none, readField, coveredOf}
-use Rattle.field_walk.specs.declared.Objects.{Objects}
-use Rattle.field_walk.specs.declared.FieldRead.{FieldRead}
-use Rattle.field_walk.specs.declared.FieldRead.the-variants.{Read, Malformed as BadField, Missing}
+use Rattle.field_read.specs.Field.{none, readField, coveredOf}
+use Rattle.field_read.specs.declared.Objects.{Objects}
+use Rattle.field_read.specs.declared.FieldRead.{FieldRead}
+use Rattle.field_read.specs.declared.FieldRead.the-variants.{Read, Malformed as BadField, Missing}
 use Rattle.field_write.specs.Objects.{commandObjects, responseObjects, commandField, responseField}
 use Rattle.message_mac.specs.MacInput.{responseMacInput}
 use Rattle.session.specs.Session.{closed}
-use Rattle.session_stored_keys.specs.StoredKeys.{Keys}
+use Rattle.session_suite.specs.StoredKeys.{Keys}
 use Rattle.session.specs.declared.Side.{Side}
 use Rattle.session.specs.declared.Side.the-variants.{Host, Card}
 use Rattle.session.specs.declared.Session.{Session}

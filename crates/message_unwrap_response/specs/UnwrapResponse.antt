@@ -1,8 +1,8 @@
 -- The host's unwrap with AES, by the function's own parameters. Assumes nothing.
 use Prim.Native.Nat.{ℕ}
 use Rattle.octets.specs.Bytes.{Bytes}
-use Rattle.field_walk.specs.Field.{readField}
-use Rattle.field_walk.specs.declared.Objects.{Objects}
+use Rattle.field_read.specs.Field.{readField}
+use Rattle.field_read.specs.declared.Objects.{Objects}
 use Rattle.session.specs.declared.Session.{Session}
 use Rattle.message_ciphers.specs.Aes.{aesCiphers}
 use Rattle.message_answer.specs.Message.{Response, status}

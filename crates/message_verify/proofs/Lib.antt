@@ -1,2 +1,3 @@
 pub mod Stages
 pub mod Opened
+pub mod InMemory

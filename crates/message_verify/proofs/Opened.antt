@@ -9,8 +9,8 @@ use lib.ListN.{length, take}
 use Rattle.octets.specs.Bytes.{Bytes}
 use Rattle.octets.specs.Write.{over}
 use Rattle.message_mac.specs.Same.{same}
-use Rattle.field_walk.specs.Field.{ciphertextOf, macOf}
-use Rattle.field_walk.specs.declared.Objects.{Objects}
+use Rattle.field_read.specs.Field.{ciphertextOf, macOf}
+use Rattle.field_read.specs.declared.Objects.{Objects}
 use Rattle.refusal.specs.declared.Refusal.{Refusal}
 use Rattle.refusal.specs.declared.Refusal.the-variants.{BufferTooSmall, BadMac}
 use Rattle.session.specs.declared.Session.{Session}

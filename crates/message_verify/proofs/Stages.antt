@@ -11,16 +11,16 @@ use Rattle.octets.specs.Bytes.{Bytes}
 use Rattle.message_mac.specs.Same.{same}
 use Rattle.field_padding.specs.declared.Unpadded.{Unpadded}
 use Rattle.field_padding.specs.declared.Unpadded.the-variants.{Data, BadPadding}
-use Rattle.field_walk.specs.Field.{ciphertextOf, macOf}
+use Rattle.field_read.specs.Field.{ciphertextOf, macOf}
 use Rattle.field_expected.specs.declared.Wanted.{Wanted}
-use Rattle.field_walk.specs.declared.Objects.{Objects}
+use Rattle.field_read.specs.declared.Objects.{Objects}
 use Rattle.field_laws.specs.Written.{Conforms}
 use Rattle.refusal.specs.declared.Refusal.the-variants.{BufferTooSmall, BadMac, BadPadding as WrongPadding}
 use Rattle.message_ciphers.specs.Aes.{decrypt}
 use Rattle.message_answer.specs.Answer.{Answer, require_else_⨾_, buffer}
 use Rattle.message_protocol.specs.Reading.{textOf}
-use Rattle.message_decrypt.specs.Decryption.{unpadded}
-use Rattle.message_decrypt.proofs.InMemory.{found-none, found-data}
+use Rattle.message_verify.specs.Decryption.{unpadded}
+use Rattle.message_verify.proofs.InMemory.{found-none, found-data}
 use Rattle.message_verify.specs.VerifiedText.{StandIn, verified, verifiedText}
 use Rattle.message_verify.specs.declared.Verified.{Verified}
 use Rattle.message_verify.specs.declared.Verified.the-variants.{Data as Verified-data, Refused}

@@ -1,1 +1,2 @@
 pub mod VerifiedText
+pub mod Decryption

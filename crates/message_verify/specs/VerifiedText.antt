@@ -5,8 +5,8 @@ use lib.Dec.{leb}
 use lib.ListN.{length, take}
 use Rattle.octets.specs.Bytes.{Bytes}
 use Rattle.message_mac.specs.Same.{same}
-use Rattle.field_walk.specs.Field.{ciphertextOf, macOf}
-use Rattle.field_walk.specs.declared.Objects.{Objects}
+use Rattle.field_read.specs.Field.{ciphertextOf, macOf}
+use Rattle.field_read.specs.declared.Objects.{Objects}
 use Rattle.refusal.specs.declared.Refusal.the-variants.{BufferTooSmall, BadMac}
 use Rattle.message_ciphers.specs.Aes.{decrypt}
 use Rattle.message_answer.specs.Answer.{Answer, refused, gave, require_else_⨾_}

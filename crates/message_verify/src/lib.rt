@@ -1,15 +1,17 @@
 // The data of a field whose objects are known: there is room for it, then its MAC is right, then its padding, and only then it is written to the
 // caller's buffer (document 01: refusals 6, 9 and 10).
+mod decrypt;
+
+use decrypt::decrypt_text;
 use field_padding::Unpadded;
-use field_walk::Objects;
-use message_decrypt::decrypt_text;
+use field_read::Objects;
 use message_mac::mac_matches;
 use message_mac::truncated;
 use refusal::Refusal;
 use session_suite::Suite;
 ghost use mathlib.Core.Path.{_≡_};
 ghost use lib.ListN.{length};
-ghost use Rattle.session_stored_keys.specs.StoredKeys.{keyIn};
+ghost use Rattle.session_suite.specs.StoredKeys.{keyIn};
 ghost use Rattle.message_answer.specs.Answer.{buffer};
 ghost use Rattle.message_verify.specs.VerifiedText.{StandIn, verified, verifiedText};
 

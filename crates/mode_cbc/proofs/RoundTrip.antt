@@ -13,7 +13,7 @@ use Rattle.octets.proofs.Xor.{xor-byte}
 use Rattle.octets.proofs.XorBytes.{length-xor, xor-bytes-undo}
 use Rattle.aes.specs.Aes.{aes, invAes}
 use Rattle.aes.specs.BlockCipher.{IsBlock, BlockCipher}
-use Rattle.aes_key_schedule.specs.declared.KeySize.{KeySize}
+use Rattle.aes_key_expansion.specs.declared.KeySize.{KeySize}
 use Rattle.aes.proofs.RoundTrip.{aes-is}
 use Rattle.mode_cbc.specs.Cbc.{blocks, joined, encryptBlocks, decryptBlocks, cbcEncrypt, cbcDecrypt}
 

@@ -14,7 +14,7 @@ use lib.Seq.{set-at, getD-at, drop-cons, drop-drop, length-take-le}
 use Rattle.octets.specs.Bytes.{Bytes, _⊕_, _xor_}
 use Rattle.octets.proofs.XorBytes.{xor-nil}
 use Rattle.mode_cmac.specs.declared.Cmac.{Cmac}
-use Rattle.mode_cmac_subkeys.specs.Subkeys.{Cipher}
+use Rattle.mode_cmac.specs.Subkeys.{Cipher}
 use Rattle.mode_cmac.specs.Running.{flush, add, absorb, Absorbed}
 
 -- the state with chain x and n bytes in the current block

@@ -5,11 +5,11 @@ use mathlib.Core.List.{List, _++_}
 use Prim.Native.Nat.{ℕ}
 use lib.ListN.{length}
 use Rattle.octets.specs.Bytes.{Bytes}
-use Rattle.aes_key_schedule.specs.declared.KeySize.{KeySize}
+use Rattle.aes_key_expansion.specs.declared.KeySize.{KeySize}
 use Rattle.aes.specs.Aes.{ciph}
 use Rattle.aes.proofs.Block.{length-ciph}
 use Rattle.mode_cmac.specs.declared.Cmac.{Cmac}
-use Rattle.mode_cmac_subkeys.specs.Subkeys.{Cipher}
+use Rattle.mode_cmac.specs.Subkeys.{Cipher}
 use Rattle.mode_cmac.specs.Cmac.{cmac}
 use Rattle.mode_cmac.specs.Running.{start, absorb, finish}
 use Rattle.mode_cmac.proofs.BlockByBlock as blocks

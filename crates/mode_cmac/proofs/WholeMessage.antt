@@ -12,7 +12,7 @@ use lib.Seq.{take-all, drop-drop, length-take-le}
 use Rattle.octets.specs.Bytes.{Bytes, zeros, _xor_}
 use Rattle.octets.proofs.XorBytes.{xor-bytes-comm, xor-bytes-assoc, xor-start}
 use Rattle.mode_cmac.specs.declared.Cmac.{Cmac}
-use Rattle.mode_cmac_subkeys.specs.Subkeys.{Cipher, subkey1, subkey2}
+use Rattle.mode_cmac.specs.Subkeys.{Cipher, subkey1, subkey2}
 use Rattle.mode_cmac.specs.Cmac.{blockCount, block, lastBlock, chain, cmac}
 use Rattle.mode_cmac.specs.Running.{start, flush, absorb, finish}
 use Rattle.mode_cmac.proofs.BlockByBlock.{state, absorb-append, absorb-part, absorb-block, absorb-flush}

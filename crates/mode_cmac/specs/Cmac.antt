@@ -6,7 +6,7 @@ use lib.Dec.{eqb}
 use lib.ListN.{length, take, drop}
 use Rattle.octets.specs.Bytes.{Bytes, zeros, _xor_}
 use Rattle.octets.specs.Choice.{if_then_else_}
-use Rattle.mode_cmac_subkeys.specs.Subkeys.{Cipher, subkey1, subkey2}
+use Rattle.mode_cmac.specs.Subkeys.{Cipher, subkey1, subkey2}
 
 -- 6.2, step 2: n, 1 for the empty message, else ⌈Mlen / b⌉
 unfoldable pub blockCount : Bytes → ℕ

@@ -8,7 +8,7 @@ use lib.ListN.{length, drop, getD, set}
 use Rattle.octets.specs.Bytes.{Bytes, zeros, _⊕_, _xor_}
 use Rattle.octets.specs.Choice.{if_then_else_}
 use Rattle.mode_cmac.specs.declared.Cmac.{Cmac}
-use Rattle.mode_cmac_subkeys.specs.Subkeys.{Cipher, subkey1, subkey2}
+use Rattle.mode_cmac.specs.Subkeys.{Cipher, subkey1, subkey2}
 
 -- nothing absorbed
 unfoldable pub start : Cmac

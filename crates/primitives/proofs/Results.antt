@@ -12,7 +12,7 @@ use Rattle.octets.specs.Bytes.{Bytes, zeros}
 use Rattle.octets.specs.Write.{over, Wrote}
 use Rattle.octets.proofs.Writing.{wrote-all, over-full}
 use Rattle.aes.specs.Aes.{ciph}
-use Rattle.aes_key_schedule.specs.declared.KeySize.{KeySize}
+use Rattle.aes_key_expansion.specs.declared.KeySize.{KeySize}
 use Rattle.mode_cmac.specs.Cmac.{cmac}
 use Rattle.mode_cmac.specs.Running.{start, absorb, finish}
 use Rattle.mode_cmac.specs.declared.Cmac.{Cmac}

@@ -8,8 +8,8 @@ use Rattle.octets.specs.Bytes.{Bytes, zeros}
 use Rattle.octets.specs.Choice.{if_then_else_}
 use Rattle.octets.specs.Write.{over}
 use Rattle.aes.specs.Aes.{aes, invAes}
-use Rattle.aes_key_schedule.specs.declared.KeySize.{KeySize}
-use Rattle.aes_key_schedule.specs.declared.KeySize.the-variants.{Aes128, Aes256}
+use Rattle.aes_key_expansion.specs.declared.KeySize.{KeySize}
+use Rattle.aes_key_expansion.specs.declared.KeySize.the-variants.{Aes128, Aes256}
 use Rattle.mode_cbc.specs.Cbc.{cbcEncrypt, cbcDecrypt}
 use Rattle.mode_cbc.specs.Whole.{whole}
 use Rattle.mode_cmac.specs.Cmac.{cmac}

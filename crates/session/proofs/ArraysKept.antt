@@ -12,7 +12,7 @@ use Rattle.octets.specs.Bytes.{Bytes, IsBytes, zeros}
 use Rattle.octets.proofs.ByteStrings.{by-test}
 use Rattle.session_suite.specs.Suites.{keyLength, suiteOf}
 use Rattle.session.specs.Session.{closed, closedAt}
-use Rattle.session_stored_keys.specs.StoredKeys.{stored, Keys, keysFit, KeysOfBytes}
+use Rattle.session_suite.specs.StoredKeys.{stored, Keys, keysFit, KeysOfBytes}
 use Rattle.session.specs.Opening.{openSuite, opening}
 use Rattle.session.specs.Arrays.{Block, Arrays}
 use Rattle.session.specs.declared.Side.{Side}
@@ -20,7 +20,7 @@ use Rattle.session_suite.specs.declared.Suite.{Suite}
 use Rattle.session_suite.specs.declared.SuiteNumber.{SuiteNumber}
 use Rattle.session_suite.specs.declared.SuiteNumber.the-variants.{Known, Unknown}
 use Rattle.session.specs.declared.Session.{Session}
-use Rattle.session_stored_keys.proofs.StoredKeys.{key-length-most, fitting}
+use Rattle.session_suite.proofs.StoredKeys.{key-length-most, fitting}
 
 zero-block : (n : ℕ) → Block n (zeros n)
 zero-block n =

@@ -6,7 +6,7 @@ use lib.ListN.{replicate}
 use Rattle.octets.specs.Bytes.{zeros}
 use Rattle.refusal.specs.declared.Refusal.the-variants.{UnknownSuite, BadKeyLength}
 use Rattle.session.specs.Session.{closed}
-use Rattle.session_stored_keys.specs.StoredKeys.{Keys, keys, keysFit}
+use Rattle.session_suite.specs.StoredKeys.{Keys, keys, keysFit}
 use Rattle.session.specs.Opening.{openSuite, opening}
 use Rattle.session.specs.declared.Side.the-variants.{Host, Card}
 use Rattle.session.specs.declared.Phase.the-variants.{Ready, Closed}

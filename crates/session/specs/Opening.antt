@@ -4,7 +4,7 @@ use Rattle.octets.specs.Choice.{if_then_else_}
 use Rattle.refusal.specs.declared.Refusal.{Refusal}
 use Rattle.refusal.specs.declared.Refusal.the-variants.{UnknownSuite, BadKeyLength}
 use Rattle.session_suite.specs.Suites.{keyLength, suiteOf}
-use Rattle.session_stored_keys.specs.StoredKeys.{Keys, keysFit, stored}
+use Rattle.session_suite.specs.StoredKeys.{Keys, keysFit, stored}
 use Rattle.session.specs.Session.{fresh, noSession}
 use Rattle.session.specs.declared.Side.{Side}
 use Rattle.session_suite.specs.declared.SuiteNumber.{SuiteNumber}

@@ -1,12 +1,12 @@
 // The session of secure messaging: a value that each call takes and gives back (document 01, "The session and whose turn it is").
 use refusal::Refusal;
-use session_stored_keys::keys_fit;
-use session_stored_keys::stored;
 use session_suite::Suite;
 use session_suite::SuiteNumber;
+use session_suite::keys_fit;
+use session_suite::stored;
 use session_suite::suite_of;
 ghost use mathlib.Core.Path.{_≡_};
-ghost use Rattle.session_stored_keys.specs.StoredKeys.{KeysOfBytes, keys};
+ghost use Rattle.session_suite.specs.StoredKeys.{KeysOfBytes, keys};
 ghost use Rattle.session.specs.Session.{fresh, closed, closedAt, noSession};
 ghost use Rattle.session.specs.Opening.{notOpened, openSuite, opening};
 

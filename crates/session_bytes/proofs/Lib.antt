@@ -2,3 +2,4 @@ pub mod SavedParts
 pub mod DecodeEncode
 pub mod EncodeDecode
 pub mod SavedExamples
+pub mod SavingExamples

@@ -10,7 +10,7 @@ use Rattle.session_suite.specs.declared.Suite.the-variants.{Cs2, Cs7}
 use Rattle.session.specs.declared.Phase.the-variants.{Pending}
 use Rattle.session.specs.declared.Session.{Session}
 use Rattle.session_rules.specs.Valid.{keepsPhase, valid}
-use Rattle.session_zeros.specs.ZeroBytes.{allZero, keysZero, mcvsZero}
+use Rattle.session_rules.specs.ZeroBytes.{allZero, keysZero, mcvsZero}
 use Rattle.session_bytes.specs.Saved.{header, keys, mcvs, encode, headed, sessionFrom, decodedTo, unreadable, accepted, decodeSuite, decode}
 
 closed-card : encode (closedAt Card Cs7) ≡ 0x00 ∷ 0x88 ∷ 0x01 ∷ 0x01 ∷ 0x02 ∷ 0x07 ∷ zeros 132

@@ -18,6 +18,7 @@ ghost use Rattle.octets.specs.Write.{Wrote};
 ghost use Rattle.session_bytes.specs.Saved.{sideNumber, phaseNumber, header, keys, mcvs, encode, headed, unreadable, accepted, decodeSuite, decode};
 ghost use Rattle.octets.specs.Bytes.{IsBytes};
 ghost use Rattle.session_suite.specs.Suites.{suiteOf};
+ghost use Rattle.session_bytes.specs.Saving.{encoding, encodedIn};
 
 // The length of a saved session.
 pub const SIZE: usize = 138;
@@ -178,4 +179,26 @@ pub fn decode(bytes: &[u8]) -> Decoded
         return decode_suite(bytes);
     }
     unreadable()
+}
+
+// ---- Saving a session in the caller's buffer (document 01, "The saved session").
+
+pub enum Encoding {
+    Encoded,
+    Refused(Refusal),
+}
+
+// Saves a session: refusals 1 and 6.
+pub fn encode(session: Session, out: &mut [u8]) -> Encoding
+    ensures answer { λ answer. ⌜ answer ≡ encoding session (length (now (out .entry))) ⌝ }
+    ensures output { λ answer. ⌜ now (out .exit) ≡ encodedIn (now (out .entry)) answer session ⌝ }
+{
+    if valid(session) {
+        if SIZE <= out.len() {
+            put_session(session, out);
+            return Encoding::Encoded;
+        }
+        return Encoding::Refused(Refusal::BufferTooSmall(SIZE));
+    }
+    Encoding::Refused(Refusal::SessionClosed)
 }

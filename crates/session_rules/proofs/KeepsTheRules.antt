@@ -15,7 +15,7 @@ use Rattle.octets.proofs.Tests.{both, and-intro}
 use Rattle.session_suite.specs.Suites.{keyLength, suiteOf}
 use Rattle.session.specs.Session.{fresh, closed}
 use Rattle.session_turn.specs.Transitions.{commandTaken, responseTaken}
-use Rattle.session_stored_keys.specs.StoredKeys.{stored, Keys, keysFit}
+use Rattle.session_suite.specs.StoredKeys.{stored, Keys, keysFit}
 use Rattle.session.specs.Opening.{openSuite, opening}
 use Rattle.session.specs.declared.Side.{Side}
 use Rattle.session_suite.specs.declared.Suite.{Suite}
@@ -25,9 +25,9 @@ use Rattle.session.specs.declared.Phase.{Phase}
 use Rattle.session.specs.declared.Phase.the-variants.{Ready, Pending}
 use Rattle.session.specs.declared.Opening.the-variants.{Opened as Done}
 use Rattle.session.specs.declared.Session.{Session}
-use Rattle.session_stored_keys.proofs.StoredKeys.{fitting}
+use Rattle.session_suite.proofs.StoredKeys.{fitting}
 use Rattle.session_rules.specs.Valid.{keepsPhase, valid, isOpen, countsAsOpen}
-use Rattle.session_zeros.specs.ZeroBytes.{allZero, keysEnd, keysZero, mcvsZero}
+use Rattle.session_rules.specs.ZeroBytes.{allZero, keysEnd, keysZero, mcvsZero}
 
 zeros-are-zero : (n : ℕ) → allZero (zeros n) ≡ true
 unfolding allZero

@@ -13,7 +13,7 @@ use Rattle.session.specs.declared.Phase.{Phase}
 use Rattle.session.specs.declared.Phase.the-variants.{Ready, Pending, Closed}
 use Rattle.session.specs.declared.Session.{Session}
 use Rattle.session_rules.specs.Valid.{keepsPhase, valid}
-use Rattle.session_zeros.specs.ZeroBytes.{allZero, keysEnd, keysZero, mcvsZero}
+use Rattle.session_rules.specs.ZeroBytes.{allZero, keysEnd, keysZero, mcvsZero}
 
 abbrev sessionOf : Side → Phase → ℕ → Bytes → Bytes → Session
 sessionOf side phase count command response =

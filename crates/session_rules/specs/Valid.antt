@@ -6,7 +6,7 @@ use Rattle.octets.specs.Choice.{if_then_else_}
 use Rattle.session.specs.declared.Phase.{Phase}
 use Rattle.session.specs.declared.Phase.the-variants.{Ready, Pending, Closed}
 use Rattle.session.specs.declared.Session.{Session}
-use Rattle.session_zeros.specs.ZeroBytes.{allZero, keysEnd, keysZero, mcvsZero}
+use Rattle.session_rules.specs.ZeroBytes.{allZero, keysEnd, keysZero, mcvsZero}
 
 -- ready: count 0 needs both chaining values zero
 -- pending: count 1 or more, and count 1 needs the response value zero

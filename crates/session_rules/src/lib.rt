@@ -1,10 +1,12 @@
 // Whether a session value keeps the rules of document 01, "The saved session": one that breaks them counts as closed.
+mod zeros;
+
 use session::Phase;
 use session::Session;
-use session_zeros::all_zero;
-use session_zeros::keys_end;
-use session_zeros::keys_zero;
-use session_zeros::mcvs_zero;
+use zeros::all_zero;
+use zeros::keys_end;
+use zeros::keys_zero;
+use zeros::mcvs_zero;
 ghost use mathlib.Core.Path.{_≡_};
 ghost use Rattle.session_rules.specs.Valid.{keepsPhase, valid, countsAsOpen};
 

@@ -1,6 +1,10 @@
 // The cipher suites, their numbers and key lengths.
+use octets::put_bytes;
 ghost use mathlib.Core.Path.{_≡_};
+ghost use Prim.Native.Nat.{_≤_};
+ghost use lib.ListN.{length};
 ghost use Rattle.session_suite.specs.Suites.{keyLength, number, suiteOf};
+ghost use Rattle.session_suite.specs.StoredKeys.{keys, keysFit, stored};
 
 // The cipher suites of SP 800-73-4 Part 2, Table 14.
 pub enum Suite {
@@ -46,4 +50,28 @@ impl Suite {
             Suite::Cs7 => 7,
         }
     }
+}
+
+// ---- The session keys: as they are handed in, and in the 32 bytes that a session stores.
+
+// A key in its 32 bytes.
+pub fn stored(key: &[u8]) -> [u8; 32]
+    requires { ⌜ length (now key) ≤ 32 ⌝ }
+    ensures { λ bytes. ⌜ bytes ≡ stored (now (key .entry)) ⌝ }
+{
+    let mut bytes = [0u8; 32];
+    put_bytes(&mut bytes, 0, key);
+    bytes
+}
+
+// Whether each key has n bytes.
+pub fn keys_fit(n: usize, enc: &[u8], mac: &[u8], rmac: &[u8]) -> bool
+    ensures { λ fit. ⌜ fit ≡ keysFit n (keys (now (enc .entry)) (now (mac .entry)) (now (rmac .entry))) ⌝ }
+{
+    if enc.len() == n {
+        if mac.len() == n {
+            return rmac.len() == n;
+        }
+    }
+    false
 }

@@ -2,8 +2,8 @@
 // field's objects at 50.
 use field_object::Breach;
 use field_object::Rule;
-use field_walk::FieldRead;
-use field_walk::Objects;
+use field_read::FieldRead;
+use field_read::Objects;
 
 pub fn head() {
     test_print::text(

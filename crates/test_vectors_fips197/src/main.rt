@@ -2,7 +2,7 @@
 // example vectors of appendix C, for AES-128 and AES-256. One value a line, under appendix C's
 // names, which serve for appendix B too: `start` is its "Start of Round", `s_box` its "After
 // SubBytes", `s_row` "After ShiftRows", `m_col` "After MixColumns", `k_sch` "Round Key Value".
-use aes_key_schedule::KeySize;
+use aes_key_expansion::KeySize;
 ghost use Prim.Native.Nat.{_≤_, _<_};
 
 type State = [[u8; 4]; 4];
@@ -40,7 +40,7 @@ fn main() {
 fn sbox_difference(table: &[u8; 256]) -> usize {
     let mut x = 0;
     while x < 256 {
-        if table[x] != aes_sbox_rule::sbox_rule(x as u8) {
+        if table[x] != aes_sbox::sbox_rule(x as u8) {
             return x;
         }
         x += 1;
@@ -52,7 +52,7 @@ fn sbox_difference(table: &[u8; 256]) -> usize {
 fn inv_sbox_difference(table: &[u8; 256]) -> usize {
     let mut x = 0;
     while x < 256 {
-        if table[index(aes_sbox_rule::sbox_rule(x as u8))] != x as u8 {
+        if table[index(aes_sbox::sbox_rule(x as u8))] != x as u8 {
             return x;
         }
         x += 1;
@@ -148,15 +148,15 @@ fn cipher(source: &[u8], rounds: usize, w: &[[u8; 4]; 60], input: State)
         0,
         b".k_sch ",
         input,
-        aes_key_schedule::round_key(w, 0),
+        aes_key_expansion::round_key(w, 0),
     );
     let mut round = 1;
     while round < rounds {
-        let next = full_round(source, round, s, aes_key_schedule::round_key(w, round));
+        let next = full_round(source, round, s, aes_key_expansion::round_key(w, round));
         s = next;
         round += 1;
     }
-    last_round(source, rounds, s, aes_key_schedule::round_key(w, rounds));
+    last_round(source, rounds, s, aes_key_expansion::round_key(w, rounds));
 }
 
 fn full_round(source: &[u8], round: usize, start: State, key: State) -> State {
@@ -193,7 +193,7 @@ fn inv_cipher(source: &[u8], rounds: usize, w: &[[u8; 4]; 60], input: State)
         0,
         b".ik_sch ",
         input,
-        aes_key_schedule::round_key(w, rounds),
+        aes_key_expansion::round_key(w, rounds),
     );
     let mut round = 1;
     while round < rounds {
@@ -201,18 +201,18 @@ fn inv_cipher(source: &[u8], rounds: usize, w: &[[u8; 4]; 60], input: State)
             source,
             round,
             s,
-            aes_key_schedule::round_key(w, rounds - round),
+            aes_key_expansion::round_key(w, rounds - round),
         );
         s = next;
         round += 1;
     }
-    inv_last_round(source, rounds, s, aes_key_schedule::round_key(w, 0));
+    inv_last_round(source, rounds, s, aes_key_expansion::round_key(w, 0));
 }
 
 fn inv_full_round(source: &[u8], round: usize, start: State, key: State) -> State {
     let added = inv_key_added(source, round, start, key);
     step(source, round, b".ik_add ", added);
-    aes_inv_mix_columns::inv_mix_columns(added)
+    aes_mix_columns::inv_mix_columns(added)
 }
 
 // The last round has no InvMixColumns.

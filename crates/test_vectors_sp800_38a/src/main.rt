@@ -1,5 +1,5 @@
 // SP 800-38A appendix F.2: the CBC examples for AES-128 and AES-256, block by block.
-use aes_key_schedule::KeySize;
+use aes_key_expansion::KeySize;
 ghost use Prim.Native.Nat.{_≤_};
 
 // A 16-byte key stands in the first half.

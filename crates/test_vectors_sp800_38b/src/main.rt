@@ -1,5 +1,5 @@
 // SP 800-38B appendix D: the CMAC examples for AES-128 (D.1) and AES-256 (D.3).
-use aes_key_schedule::KeySize;
+use aes_key_expansion::KeySize;
 use mode_cmac::Cmac;
 
 // A 16-byte key stands in the first half.
@@ -17,7 +17,7 @@ const MESSAGE: [u8; 64] = *b"\x6b\xc1\xbe\xe2\x2e\x40\x9f\x96\xe9\x3d\x7e\x11\x7
 fn main() {
     let w = aes_key_expansion::key_expansion(KeySize::Aes128, KEY_128);
     test_print::text(b"SP 800-38B D.1 AES-128 K ");
-    test_print::state(aes_key_schedule::round_key(&w, 0));
+    test_print::state(aes_key_expansion::round_key(&w, 0));
     test_print::newline();
     subkeys(b"SP 800-38B D.1 AES-128", KeySize::Aes128, &w);
     let message = MESSAGE;
@@ -48,8 +48,8 @@ fn main() {
 
     let w = aes_key_expansion::key_expansion(KeySize::Aes256, KEY_256);
     test_print::text(b"SP 800-38B D.3 AES-256 K ");
-    test_print::state(aes_key_schedule::round_key(&w, 0));
-    test_print::state(aes_key_schedule::round_key(&w, 1));
+    test_print::state(aes_key_expansion::round_key(&w, 0));
+    test_print::state(aes_key_expansion::round_key(&w, 1));
     test_print::newline();
     subkeys(b"SP 800-38B D.3 AES-256", KeySize::Aes256, &w);
     let message = MESSAGE;
@@ -82,8 +82,8 @@ fn main() {
 // CIPH_K(0), of which 6.1 makes the subkeys, and these.
 fn subkeys(source: &[u8], size: KeySize, w: &[[u8; 4]; 60]) {
     test_print::value(source, b" CIPH_K(0) ", aes::encrypt_block(size, w, [0; 16]));
-    test_print::value(source, b" K1 ", mode_cmac_subkeys::subkey1(size, w));
-    test_print::value(source, b" K2 ", mode_cmac_subkeys::subkey2(size, w));
+    test_print::value(source, b" K1 ", mode_cmac::subkey1(size, w));
+    test_print::value(source, b" K2 ", mode_cmac::subkey2(size, w));
 }
 
 // The MAC of a message, absorbed whole, and again as its first 7 bytes and the rest.

@@ -3,7 +3,7 @@
 use borrow.Author.Needs.{needs}
 use mathlib.Core.Path.{ap, _∙_}
 use Rattle.aes_state.specs.State.{bytesOf}
-use Rattle.aes_key_schedule.specs.KeySizes.{nr}
+use Rattle.aes_key_expansion.specs.KeySizes.{nr}
 use Rattle.aes.specs.InvCipher.{invCipher}
 use Rattle.aes.specs.Aes.{invCiph}
 use Rattle.aes.proofs.decrypt_block.Statement.{statement}

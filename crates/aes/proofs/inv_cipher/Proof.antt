@@ -3,7 +3,7 @@
 use borrow.Author.Needs.{needs}
 use native.Mathlib.Omega.{arith}
 use Rattle.aes_sbox.specs.SBox.{invSBox}
-use Rattle.aes_key_schedule.proofs.Sizes.{bounds}
+use Rattle.aes_key_expansion.proofs.Sizes.{bounds}
 use Rattle.aes.proofs.Rounds.{invCipher-whole}
 use Rattle.aes.proofs.inv_cipher.Statement.{statement}
 use Rattle.aes.proofs.inv_cipher.Tie as tie

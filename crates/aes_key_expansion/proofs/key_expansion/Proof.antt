@@ -5,9 +5,9 @@ use mathlib.Core.Path.{_≡_, ap₂, _∙_}
 use Prim.Native.Nat.{ℕ, _≤_, _-_, _+_, _*_}
 use native.Mathlib.Omega.{arith}
 use lib.ListN.{length, length-set}
-use Rattle.aes_key_schedule.specs.KeySizes.{nk, nr}
+use Rattle.aes_key_expansion.specs.KeySizes.{nk, nr}
 use Rattle.aes_key_expansion.specs.KeyExpansion.{keyExpansion, schedule}
-use Rattle.aes_key_schedule.proofs.Sizes.{bounds}
+use Rattle.aes_key_expansion.proofs.Sizes.{bounds}
 use Rattle.aes_key_expansion.proofs.Schedule.{filled, filled-none, filled-more}
 use Rattle.aes_key_expansion.proofs.key_expansion.Statement.{statement}
 use Rattle.aes_key_expansion.proofs.key_expansion.Tie as tie

@@ -5,8 +5,8 @@ use mathlib.Core.Path.{_≡_, refl}
 use Prim.Native.Nat.{ℕ}
 use lib.ListN.{getD}
 use Rattle.octets.proofs.ListsOfFour.{four}
-use Rattle.aes_columns.proofs.MixColumn.{sum}
-use Rattle.aes_columns.specs.MixColumn.{mixColumn}
+use Rattle.aes_mix_columns.proofs.MixColumn.{sum}
+use Rattle.aes_mix_columns.specs.MixColumn.{mixColumn}
 use Rattle.aes_mix_columns.proofs.mix_column.Statement.{statement}
 use Rattle.aes_mix_columns.proofs.mix_column.Tie as tie
 

@@ -2,7 +2,7 @@
 -- Assumes nothing.
 use borrow.Author.Needs.{needs}
 use mathlib.Core.Path.{_∙_}
-use Rattle.aes_columns.proofs.MixColumn.{times-02}
+use Rattle.aes_mix_columns.proofs.MixColumn.{times-02}
 use Rattle.aes_mix_columns.proofs.times_02.Statement.{statement}
 use Rattle.aes_mix_columns.proofs.times_02.Tie as tie
 

@@ -5,7 +5,7 @@ use Rattle.chain_fragment_command.proofs.put_fragment.Statement.{statem
 use Rattle.chain_fragment_command.proofs.put_fragment.Tie as tie
 use native.Mathlib.Omega.{arith}
 use Rattle.chain_command.specs.Apdu.{header}
-use Rattle.chain_command_parts.proofs.Parts.{part-order, part-within, short-part, length-part, part-apdu}
+use Rattle.chain_fragment_command.proofs.Parts.{part-order, part-within, short-part, length-part, part-apdu}
 
 sub-put-apdu : tie.Need-sub-put-apdu
 sub-put-apdu c = let a = c .before .before .before .before .args in omega (arith, part-order (a .field .now) (a .size) (a .number) _ (c .before .fragment-part .ensures))

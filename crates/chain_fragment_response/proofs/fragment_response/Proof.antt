@@ -14,7 +14,7 @@ use Rattle.message_answer.specs.Message.{status}
 use Rattle.chain_response.specs.Fragment.{next, fragmentResponse, fragmentAnswer}
 use Rattle.chain_response.specs.declared.ResponseFragmentAnswer.the-variants.{Fragment}
 use Rattle.chain_fragment_response.proofs.FragmentCases.{may-fragment, was-refused}
-use Rattle.chain_response_parts.proofs.Parts.{part-order, part-within, part-fragment, length-fragment}
+use Rattle.chain_fragment_response.proofs.Parts.{part-order, part-within, part-fragment, length-fragment}
 
 put-fragment-requires : tie.Need-put-fragment-requires
 put-fragment-requires c κs =

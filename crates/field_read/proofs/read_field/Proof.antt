@@ -9,15 +9,15 @@ use Rattle.octets.specs.Bytes.{Bytes}
 use Rattle.field_expected.specs.Wanted.{rank}
 use Rattle.field_object.specs.Object.{readObject}
 use Rattle.field_object.specs.Step.{indexAfter, readStep}
-use Rattle.field_walk.specs.Field.{refused, walk, readField}
+use Rattle.field_read.specs.Field.{refused, walk, readField}
 use Rattle.field_expected.specs.declared.Wanted.{Wanted}
 use Rattle.field_object.specs.declared.DataObject.{DataObject}
 use Rattle.field_object.specs.declared.ObjectRead.{ObjectRead}
 use Rattle.field_object.specs.declared.ObjectRead.the-variants.{Object}
 use Rattle.field_object.specs.declared.Step.{Step}
-use Rattle.field_walk.specs.declared.Objects.{Objects}
+use Rattle.field_read.specs.declared.Objects.{Objects}
 use Rattle.field_object.proofs.Inversion.{stands, later, rank-most, some-byte}
-use Rattle.field_walk.proofs.Walk.{walk-end, walk-object, walk-breach}
+use Rattle.field_read.proofs.Walk.{walk-end, walk-object, walk-breach}
 use Rattle.field_read.proofs.read_field.Statement.{statement}
 use Rattle.field_read.proofs.read_field.Tie as tie
 

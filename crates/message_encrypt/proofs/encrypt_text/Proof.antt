@@ -7,7 +7,7 @@ use native.Mathlib.Omega.{arith}
 use borrow.Author.Tests.{ne-eqb}
 use lib.ListN.{length}
 use Rattle.octets.proofs.Writing.{wrote-none}
-use Rattle.session_stored_keys.specs.StoredKeys.{keyIn}
+use Rattle.session_suite.specs.StoredKeys.{keyIn}
 use Rattle.field_size.specs.Lengths.{ciphertextLength}
 use Rattle.message_encrypt.proofs.Encrypted.{encrypt-none}
 

@@ -4,7 +4,7 @@ use borrow.Author.Needs.{needs}
 use Rattle.message_key.proofs.expanded.Statement.{statement}
 use Rattle.message_key.proofs.expanded.Tie as tie
 use mathlib.Core.Path.{ap, _∙_}
-use Rattle.aes_key_schedule.specs.declared.KeySize.{KeySize}
+use Rattle.aes_key_expansion.specs.declared.KeySize.{KeySize}
 use Rattle.aes_key_expansion.specs.KeyExpansion.{schedule}
 
 returns : tie.Need-returns

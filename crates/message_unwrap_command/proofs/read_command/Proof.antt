@@ -5,7 +5,7 @@ use Rattle.message_unwrap_command.proofs.read_command.Statement.{statem
 use Rattle.message_unwrap_command.proofs.read_command.Tie as tie
 use mathlib.Core.Path.{sym, ap, _∙_}
 use lib.ListN.{length}
-use Rattle.field_walk.specs.Field.{readField}
+use Rattle.field_read.specs.Field.{readField}
 use Rattle.field_expected.specs.declared.Wanted.{Wanted}
 use Rattle.message_answer.specs.Message.{CommandGiven}
 use Rattle.message_answer.specs.Answer.{Answer, Outcome, concluded, buffer}

@@ -7,8 +7,8 @@ use mathlib.Core.Path.{ap, _∙_}
 use borrow.Author.Tests.{not-true, not-false}
 use Rattle.octets.proofs.Tests.{outcome}
 use Rattle.message_mac.specs.Same.{same}
-use Rattle.field_walk.specs.Field.{macOf}
-use Rattle.session_stored_keys.specs.StoredKeys.{keyIn}
+use Rattle.field_read.specs.Field.{macOf}
+use Rattle.session_suite.specs.StoredKeys.{keyIn}
 use Rattle.message_verify.proofs.Stages.{no-room, wrong-mac, wrong-padding, data-verified}
 
 returns : tie.Need-returns

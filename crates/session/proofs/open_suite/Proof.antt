@@ -9,10 +9,10 @@ use Prim.Native.Nat.{ℕ, _≤_}
 use native.Mathlib.Omega.{arith}
 use lib.ListN.{length}
 use Rattle.session_suite.specs.Suites.{keyLength}
-use Rattle.session_stored_keys.specs.StoredKeys.{Keys, keys, keysFit}
+use Rattle.session_suite.specs.StoredKeys.{Keys, keys, keysFit}
 use Rattle.session.specs.Opening.{openSuite}
 use Rattle.session_suite.specs.declared.Suite.{Suite}
-use Rattle.session_stored_keys.proofs.StoredKeys.{key-length-most, fitting}
+use Rattle.session_suite.proofs.StoredKeys.{key-length-most, fitting}
 
 -- keys that fit have room in 32 bytes
 room : (suite : Suite) (n : ℕ) (k : Keys) (fit : Bool) → n ≡ keyLength suite → fit ≡ keysFit n k → fit ≡ true

@@ -13,7 +13,7 @@ use Rattle.message_answer.specs.Answer.{require_else_⨾_}
 use Rattle.message_answer.specs.Message.{status}
 use Rattle.chain_response.specs.Fragment.{fragmentResponse}
 use Rattle.chain_response.specs.declared.ResponseFragmentAnswer.the-variants.{Fragment}
-use Rattle.chain_response_parts.proofs.Parts.{part-order, part-within, length-fragment}
+use Rattle.chain_fragment_response.proofs.Parts.{part-order, part-within, length-fragment}
 
 returns : tie.Need-returns
 unfolding fragmentResponse require_else_⨾_
