@@ -1,5 +1,5 @@
 # make test          the gate: the format, every proof and program (rt ci), then the C programs over what was proved
-# make demo          a host reads a card through the C interface (c/example.c): a transcript
+# make demo          a host reads a card through the C interface (c/examples/example.c): a transcript
 # make install       libpivsm.a, pivsm.h and pivsm.pc, under PREFIX, put below DESTDIR
 # make differential  the library beside a second implementation over OpenSSL: CASES cases of SEED
 # make mutants       whether that comparison notices 222 mistakes
@@ -10,21 +10,22 @@ PREFIX = /usr/local
 CASES = 200000
 SEED = 80073
 VERSION = 4.0
-CFLAGS = -O3 -Wall -Wextra
-C99 = gcc -std=c99 -O2 -Wall -Wextra -Wpedantic -Ic
+INCLUDE = -Ic/include -Ic/examples -Ic/tests -Ic/bench
+CFLAGS = -O3 -Wall -Wextra $(INCLUDE)
+C99 = gcc -std=c99 -O2 -Wall -Wextra -Wpedantic $(INCLUDE)
 SANITIZE = -g -fsanitize=address,undefined -fno-sanitize-recover=all
 # Each check writes up to 200 MB to a temporary folder: in memory, where programs can run there and 2 GB are free, that takes a fraction of the time.
 export TMPDIR := $(shell t=/dev/shm/make.$$$$; { cp /bin/true $$t && $$t && test $$(df -Pk /dev/shm | awk 'END { print $$4 }') -gt 2000000; } 2>/dev/null && \
     echo /dev/shm || echo $${TMPDIR:-/tmp}; rm -f $$t)
 
-# The crates that export the calls of c/pivsm.h, and those of c/primitives.h.
+# The crates that export the calls of c/include/pivsm.h, and those of c/include/primitives.h.
 exporting = $(patsubst crates/%/src/lib.rt,%,$(shell grep -l 'pub extern "C" fn' $(1)))
 CALLS = $(call exporting,crates/capi_*/src/lib.rt)
 PRIMITIVES = $(call exporting,crates/primitives*/src/lib.rt)
-# Programs whose output stands in c/NAME.stdout; that of exchange_calls is exchange's.
+# Programs whose output stands in c/*/NAME.stdout; that of exchange_calls is exchange's.
 PRINTED = example exchange exchange_calls boundary_cases
-DIFFERENTIAL = $(filter-out %/vectors.c,$(wildcard c/differential/*.c)) c/reference.c
-HEADERS = $(wildcard c/*.h c/differential/*.h)
+DIFFERENTIAL = $(filter-out %/vectors.c,$(wildcard c/tests/differential/*.c)) c/tests/reference.c
+HEADERS = $(wildcard c/*/*.h c/tests/differential/*.h)
 CODE = crates.txt $(shell find crates -name '*.rt')
 
 test: programs
@@ -51,15 +52,15 @@ demo:
 
 install: build/libpivsm.a
 	@install -d $(DESTDIR)$(PREFIX)/include $(DESTDIR)$(PREFIX)/lib/pkgconfig
-	@install -m 644 c/pivsm.h $(DESTDIR)$(PREFIX)/include
+	@install -m 644 c/include/pivsm.h $(DESTDIR)$(PREFIX)/include
 	@install -m 644 build/libpivsm.a $(DESTDIR)$(PREFIX)/lib
-	@sed 's|@PREFIX@|$(PREFIX)|; s|@VERSION@|$(VERSION)|' c/pivsm.pc.in >$(DESTDIR)$(PREFIX)/lib/pkgconfig/pivsm.pc
+	@sed 's|@PREFIX@|$(PREFIX)|; s|@VERSION@|$(VERSION)|' c/include/pivsm.pc.in >$(DESTDIR)$(PREFIX)/lib/pkgconfig/pivsm.pc
 
 programs: gate
 	@$(MAKE) -s -j2 -Otarget header vectors differential sanitized printed compare
 
 header: build/libpivsm.a
-	@c/header_test.sh build/libpivsm.a
+	@c/tests/header_test.sh build/libpivsm.a
 
 vectors: build/vectors
 	@build/vectors
@@ -71,11 +72,11 @@ sanitized: build/differential_sanitized
 	@build/differential_sanitized 3000 $(SEED)
 
 mutants: build/libpivsm.a
-	@c/differential/mutants.sh build/libpivsm.a 20000
+	@c/tests/differential/mutants.sh build/libpivsm.a 20000
 
 printed: $(PRINTED:%=build/%)
 	@for name in $(PRINTED); do \
-	    build/$$name >build/$$name.stdout && diff c/$${name%_calls}.stdout build/$$name.stdout || exit 1; done
+	    build/$$name >build/$$name.stdout && diff c/*/$${name%_calls}.stdout build/$$name.stdout || exit 1; done
 	@echo 'as stored: $(PRINTED)'
 
 compare: build/compare
@@ -86,19 +87,19 @@ bench: build/bench build/bench_messages
 	@echo
 	@build/bench_messages
 
-build/exchange: c/exchange.c
+build/exchange: c/tests/exchange.c
 	@$(C99) -o $@ $(filter-out %.h,$^) -lcrypto
 
-build/example: c/example.c c/card.c build/libpivsm.a
+build/example: c/examples/example.c c/examples/card.c build/libpivsm.a
 	@$(C99) -o $@ $(filter-out %.h,$^)
 
-build/exchange_calls: c/exchange_calls.c build/libpivsm.a
+build/exchange_calls: c/tests/exchange_calls.c build/libpivsm.a
 	@$(C99) -o $@ $(filter-out %.h,$^)
 
-build/boundary_cases: c/boundary_cases.c c/reference.c build/libpivsm.a
+build/boundary_cases: c/tests/boundary_cases.c c/tests/reference.c build/libpivsm.a
 	@$(C99) -o $@ $(filter-out %.h,$^) -lcrypto
 
-build/vectors: c/differential/vectors.c c/reference.c
+build/vectors: c/tests/differential/vectors.c c/tests/reference.c
 	@$(C99) -o $@ $(filter-out %.h,$^) -lcrypto
 
 build/differential: $(DIFFERENTIAL) build/libpivsm.a
@@ -107,13 +108,13 @@ build/differential: $(DIFFERENTIAL) build/libpivsm.a
 build/differential_sanitized: $(DIFFERENTIAL) build/libpivsm.a
 	@$(C99) $(SANITIZE) -o $@ $(filter-out %.h,$^) -lcrypto
 
-build/compare: c/compare.c c/plain_aes.c build/libprimitives.a
+build/compare: c/tests/compare.c c/bench/plain_aes.c build/libprimitives.a
 	@gcc $(CFLAGS) -o $@ $(filter-out %.h,$^) -lcrypto
 
-build/bench: c/bench.c c/turns.c c/plain_aes.c build/libprimitives.a
+build/bench: c/bench/bench.c c/bench/turns.c c/bench/plain_aes.c build/libprimitives.a
 	@gcc $(CFLAGS) -o $@ $(filter-out %.h,$^) -lcrypto
 
-build/bench_messages: c/bench_messages.c c/turns.c c/plain_aes.c c/ciphers.c c/plain_message.c build/libpivsm.a | bench-packages
+build/bench_messages: c/bench/bench_messages.c c/bench/turns.c c/bench/plain_aes.c c/bench/ciphers.c c/bench/plain_message.c build/libpivsm.a | bench-packages
 	@gcc $(CFLAGS) -o $@ $(filter-out %.h,$^) -lcrypto -lnettle -lgcrypt
 
 $(PRINTED:%=build/%) $(addprefix build/,vectors differential differential_sanitized compare bench bench_messages): $(HEADERS) | packages build

@@ -1,4 +1,4 @@
--- pivsm_close of c/pivsm.h: the library's closing of the session that the bytes hold. Assumes nothing.
+-- pivsm_close of c/include/pivsm.h: the library's closing of the session that the bytes hold. Assumes nothing.
 use Prim.Native.Nat.{ℕ}
 use Rattle.octets.specs.Bytes.{Bytes}
 use Rattle.session.specs.Session.{closed}

@@ -1,4 +1,4 @@
-// Closing a session, for programs in C (c/pivsm.h), on its bytes.
+// Closing a session, for programs in C (c/include/pivsm.h), on its bytes.
 use capi_session::replace_session;
 use capi_session::session_in;
 use session_bytes::Decoding;

@@ -1,4 +1,4 @@
--- pivsm_fragment_command of c/pivsm.h. Assumes nothing.
+-- pivsm_fragment_command of c/include/pivsm.h. Assumes nothing.
 use Prim.Native.Nat.{ℕ}
 use Rattle.octets.specs.Bytes.{Bytes}
 use Rattle.message_answer.specs.Answer.{Answer}

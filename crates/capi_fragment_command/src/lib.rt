@@ -1,4 +1,4 @@
-// Fragmenting a command, for programs in C (c/pivsm.h).
+// Fragmenting a command, for programs in C (c/include/pivsm.h).
 use capi_values::fragment_values;
 use chain_fragment_command::fragment_command;
 ghost use mathlib.Core.Path.{_≡_};

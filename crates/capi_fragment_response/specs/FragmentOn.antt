@@ -1,4 +1,4 @@
--- pivsm_fragment_response of c/pivsm.h. Assumes nothing.
+-- pivsm_fragment_response of c/include/pivsm.h. Assumes nothing.
 use Prim.Native.Nat.{ℕ, _/_, _%_}
 use Rattle.octets.specs.Bytes.{Bytes}
 use Rattle.message_answer.specs.Message.{status}

@@ -1,4 +1,4 @@
-// Fragmenting a response, for programs in C (c/pivsm.h).
+// Fragmenting a response, for programs in C (c/include/pivsm.h).
 use capi_values::response_fragment_values;
 use chain_fragment_response::fragment_response;
 ghost use mathlib.Core.Path.{_≡_};

@@ -1,4 +1,4 @@
--- pivsm_get_response of c/pivsm.h. Assumes nothing.
+-- pivsm_get_response of c/include/pivsm.h. Assumes nothing.
 use Prim.Native.Nat.{ℕ}
 use lib.Dec.{leb}
 use Rattle.octets.specs.Bytes.{Bytes}

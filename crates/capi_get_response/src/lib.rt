@@ -1,4 +1,4 @@
-// GET RESPONSE, for programs in C (c/pivsm.h).
+// GET RESPONSE, for programs in C (c/include/pivsm.h).
 use chain_reassemble_response::get_response;
 use octets::put_bytes;
 ghost use mathlib.Core.Path.{_≡_};

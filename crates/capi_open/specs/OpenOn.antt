@@ -1,4 +1,4 @@
--- pivsm_open_host and pivsm_open_card of c/pivsm.h: the library's openings, and the bytes of the session. Assumes nothing.
+-- pivsm_open_host and pivsm_open_card of c/include/pivsm.h: the library's openings, and the bytes of the session. Assumes nothing.
 use Prim.Native.Nat.{ℕ}
 use lib.Dec.{leb}
 use Rattle.octets.specs.Bytes.{Bytes}

@@ -1,4 +1,4 @@
-// Opening a session, for programs in C (c/pivsm.h).
+// Opening a session, for programs in C (c/include/pivsm.h).
 use capi_session::replace_session;
 use capi_values::refusal_values;
 use refusal::Refusal;
@@ -58,7 +58,7 @@ pub extern "C" fn pivsm_open_card(
     )
 }
 
-// ---- The bytes of a session that was opened, for programs in C (c/pivsm.h).
+// ---- The bytes of a session that was opened, for programs in C (c/include/pivsm.h).
 
 // What a refusal gives.
 fn refused(refusal: Refusal, len: &mut usize) -> u32

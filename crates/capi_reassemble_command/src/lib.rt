@@ -1,4 +1,4 @@
-// Reassembling a command, for programs in C (c/pivsm.h).
+// Reassembling a command, for programs in C (c/include/pivsm.h).
 use capi_values::reassembly_values;
 use chain_command::CommandChain;
 use chain_reassemble_command::reassemble_command;
@@ -45,7 +45,7 @@ pub extern "C" fn pivsm_reassemble_command(
     values.number
 }
 
-// ---- A chain of command fragments as one number, for programs in C (c/pivsm.h).
+// ---- A chain of command fragments as one number, for programs in C (c/include/pivsm.h).
 
 fn chain_of(n: u64) -> CommandChain
     ensures { λ chain. ⌜ chain ≡ chainOf n ⌝ }

@@ -1,4 +1,4 @@
--- pivsm_reassemble_response of c/pivsm.h. A chain is one number for a program in C, the length reassembled; 0 is the empty chain.
+-- pivsm_reassemble_response of c/include/pivsm.h. A chain is one number for a program in C, the length reassembled; 0 is the empty chain.
 -- Assumes nothing.
 use Prim.Native.Nat.{ℕ}
 use Rattle.octets.specs.Bytes.{Bytes}

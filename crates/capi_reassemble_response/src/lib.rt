@@ -1,4 +1,4 @@
-// Reassembling a response, for programs in C (c/pivsm.h).
+// Reassembling a response, for programs in C (c/include/pivsm.h).
 use capi_values::response_reassembly_values;
 use chain_reassemble_response::reassemble_response;
 use chain_response::ResponseChain;

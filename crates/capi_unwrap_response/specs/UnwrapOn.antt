@@ -1,4 +1,4 @@
--- pivsm_unwrap_response of c/pivsm.h: the library's call on the session that the bytes hold. Assumes nothing.
+-- pivsm_unwrap_response of c/include/pivsm.h: the library's call on the session that the bytes hold. Assumes nothing.
 use Prim.Native.Nat.{ℕ, _/_, _%_}
 use Rattle.octets.specs.Bytes.{Bytes}
 use Rattle.message_answer.specs.Message.{Response}

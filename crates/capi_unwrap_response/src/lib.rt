@@ -1,4 +1,4 @@
-// The host unwraps a response, for programs in C (c/pivsm.h), on the bytes of a session.
+// The host unwraps a response, for programs in C (c/include/pivsm.h), on the bytes of a session.
 use capi_session::replace_session;
 use capi_session::session_in;
 use capi_values::refusal_values;

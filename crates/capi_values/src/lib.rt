@@ -91,7 +91,7 @@ pub fn response_values(answer: ResponseAnswer) -> Values
     }
 }
 
-// ---- The numbers that the answers of command chaining are given as in C (c/pivsm.h).
+// ---- The numbers that the answers of command chaining are given as in C (c/include/pivsm.h).
 
 pub fn fragment_values(answer: FragmentAnswer) -> Values
     ensures { λ values. ⌜ values ≡ fragmentValues answer ⌝ }
@@ -121,7 +121,7 @@ pub fn reassembly_values(answer: ReassemblyAnswer) -> Values
     }
 }
 
-// ---- The numbers that the answers of response chaining are given as in C (c/pivsm.h).
+// ---- The numbers that the answers of response chaining are given as in C (c/include/pivsm.h).
 
 pub fn response_fragment_values(answer: ResponseFragmentAnswer) -> Values
     ensures { λ values. ⌜ values ≡ responseFragmentValues answer ⌝ }

@@ -1,4 +1,4 @@
--- Calls that a program in C made (c/pivsm.h). Each is an exported function's arguments, its result and what its references hold at exit, of which the
+-- Calls that a program in C made (c/include/pivsm.h). Each is an exported function's arguments, its result and what its references hold at exit, of which the
 -- function's contract holds (`Learnt`, which Rattle generates from the contract and proves of the code). Assumes nothing.
 use mathlib.Core.Bool.{Bool, false}
 use mathlib.Core.List.{[]}

@@ -1,1 +1,1 @@
-// Demands 1 and 3 of the calls that programs in C make (c/pivsm.h), with the session's bytes handed on from call to call. Statements and theorems; no code.
+// Demands 1 and 3 of the calls that programs in C make (c/include/pivsm.h), with the session's bytes handed on from call to call. Statements and theorems; no code.

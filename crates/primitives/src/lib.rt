@@ -1,4 +1,4 @@
-// What the calls for C promise (c/primitives.h), and a key as C hands it in: its size, and its schedule.
+// What the calls for C promise (c/include/primitives.h), and a key as C hands it in: its size, and its schedule.
 use aes_key_expansion::KeySize;
 use mode_cbc::Outcome;
 use mode_cmac::Cmac;
@@ -45,7 +45,7 @@ fn expanded(size: KeySize, key: &[u8]) -> [[u8; 4]; 60]
     aes_key_expansion::key_expansion(size, bytes)
 }
 
-// ---- AES for C (c/primitives.h): for the benchmark and the comparison with another library.
+// ---- AES for C (c/include/primitives.h): for the benchmark and the comparison with another library.
 
 #[no_mangle]
 pub extern "C" fn pivsm_aes_encrypt(key: &[u8], block: &mut [u8]) -> u32
@@ -81,7 +81,7 @@ pub extern "C" fn pivsm_aes_decrypt(key: &[u8], block: &mut [u8]) -> u32
     DONE
 }
 
-// ---- CBC for C (c/primitives.h): for the benchmark and the comparison with another library.
+// ---- CBC for C (c/include/primitives.h): for the benchmark and the comparison with another library.
 
 #[no_mangle]
 pub extern "C" fn pivsm_cbc_encrypt(key: &[u8], iv: &[u8], data: &mut [u8]) -> u32
@@ -119,7 +119,7 @@ pub extern "C" fn pivsm_cbc_decrypt(key: &[u8], iv: &[u8], data: &mut [u8]) -> u
     }
 }
 
-// ---- CMAC for C (c/primitives.h): for the benchmark and the comparison with another library.
+// ---- CMAC for C (c/include/primitives.h): for the benchmark and the comparison with another library.
 
 // The MAC of head followed by rest.
 #[no_mangle]

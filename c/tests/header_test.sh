@@ -4,9 +4,9 @@
 #
 # usage: header_test.sh ARCHIVE
 set -e
-cd "$(dirname "$0")/.."
+cd "$(dirname "$0")/../.."
 archive=$1
-header=c/pivsm.h
+header=c/include/pivsm.h
 work=$(mktemp -d)
 trap 'rm -rf "$work"' EXIT
 

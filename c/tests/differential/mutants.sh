@@ -4,20 +4,20 @@
 # not met does not count. Its last line is "N mutants, N noticed".
 #
 # usage: mutants.sh [LIBRARY [CASES]]     build/libpivsm.a, 20000 cases for each mistake
-cd "$(dirname "$0")/../.." || exit 2
+cd "$(dirname "$0")/../../.." || exit 2
 library=${1:-build/libpivsm.a}
 cases=${2:-20000}
-flags='-std=c99 -Wall -Wextra -Wpedantic -Ic'
+flags='-std=c99 -Wall -Wextra -Wpedantic -Ic/include -Ic/tests'
 work=$(mktemp -d) || exit 2
 trap 'rm -rf "$work"' EXIT
 
-for source in c/differential/*.c; do
+for source in c/tests/differential/*.c; do
     name=$(basename "$source" .c)
     [ "$name" = vectors ] || gcc $flags -O2 -c -o "$work/$name.o" "$source" || exit 2
 done
 
 # One file for each entry, the empty lines between them gone.
-awk -v RS= -v work="$work" '/\nold: / { print > (work "/" ++n ".txt") }' c/differential/mutants.txt
+awk -v RS= -v work="$work" '/\nold: / { print > (work "/" ++n ".txt") }' c/tests/differential/mutants.txt
 all=$(ls "$work" | grep -c '\.txt$')
 
 # Replace the old text by the new one; fail unless it occurs exactly once.
@@ -37,7 +37,7 @@ apply() {
             }
             print out rest
         }
-        END { exit found == 1 ? 0 : 1 }' c/reference.c > "$work/mutant.c"
+        END { exit found == 1 ? 0 : 1 }' c/tests/reference.c > "$work/mutant.c"
 }
 
 noticed=0
