@@ -4,6 +4,7 @@
 # make differential  the library beside a second implementation over OpenSSL: CASES cases of SEED
 # make mutants       whether that comparison notices 222 mistakes
 # make bench         speed beside plain C and other libraries
+# make edits CRATE=NAME   the must-fail edits of one crate
 #
 # Needs Rattle's rt on the PATH. gcc and the libraries' headers are installed where they are missing.
 PREFIX = /usr/local
@@ -18,10 +19,8 @@ SANITIZE = -g -fsanitize=address,undefined -fno-sanitize-recover=all
 export TMPDIR := $(shell t=/dev/shm/make.$$$$; { cp /bin/true $$t && $$t && test $$(df -Pk /dev/shm | awk 'END { print $$4 }') -gt 2000000; } 2>/dev/null && \
     echo /dev/shm || echo $${TMPDIR:-/tmp}; rm -f $$t)
 
-# The crates that export the calls of c/include/pivsm.h, and those of c/include/primitives.h.
-exporting = $(patsubst crates/%/src/lib.rt,%,$(shell grep -l 'pub extern "C" fn' $(1)))
-CALLS = $(call exporting,crates/capi_*/src/lib.rt)
-PRIMITIVES = $(call exporting,crates/primitives*/src/lib.rt)
+# The crates that export the calls of c/include/pivsm.h; those of c/include/primitives.h are in primitives.
+CALLS = $(patsubst crates/%/src/lib.rt,%,$(shell grep -l 'pub extern "C" fn' crates/capi_*/src/lib.rt))
 # Programs whose output stands in c/*/NAME.stdout; that of exchange_calls is exchange's.
 PRINTED = example exchange exchange_calls boundary_cases
 DIFFERENTIAL = $(filter-out %/vectors.c,$(wildcard c/tests/differential/*.c)) c/tests/reference.c
@@ -31,14 +30,10 @@ CODE = crates.txt $(shell find crates -name '*.rt')
 test: programs
 	@tail -n 1 build/gate
 
-# Eight at a time: rt waits for the slowest of those that it starts together. A check works in some hundred megabytes, and checks that take short turns on a processor
-# push each other's out of its caches, so each asks for turns of 100 ms (sched_setattr, number 314 on x86-64; a kernel that has no such turns does as before).
 # rt's last line, with what passed and failed, is kept for the end of `test`.
-LONG_TURNS = perl -e '$$turns = pack "LLQlLQQQ", 48, 0, 0, 0, 0, 100_000_000, 0, 0; syscall 314, 0, $$turns, 0 if `uname -m` eq "x86_64\n"; exec @ARGV'
-
 gate: format
 	@rm -f build/status
-	@{ RT_JOBS=8 $(LONG_TURNS) rt ci; echo $$? >build/status; } | tee build/gate | sed -u '$$d'
+	@{ rt ci; echo $$? >build/status; } | tee build/gate | sed -u '$$d'
 	@test "$$(cat build/status)" = 0 || { tail -n 1 build/gate; exit 1; }
 
 # tables.rt stands 16 to a row, as in the standard; the formatter would put each entry on its own line.
@@ -120,15 +115,25 @@ build/bench_messages: c/bench/bench_messages.c c/bench/turns.c c/bench/plain_aes
 $(PRINTED:%=build/%) $(addprefix build/,vectors differential differential_sanitized compare bench bench_messages): $(HEADERS) | packages build
 
 build/libpivsm.a: $(CODE) | packages build
-	@c/objects.sh $(CALLS)
-	@rm -f $@
-	@ar rcs $@ $(CALLS:%=build/%.o)
+	@$(call archive,$(CALLS))
 
-# Behind the other archive, since both are made in the same two trees.
+# After the other archive, since two rt in one tree are in each other's way.
 build/libprimitives.a: $(CODE) | build/libpivsm.a
-	@c/objects.sh $(PRIMITIVES)
-	@rm -f $@
-	@ar rcs $@ $(PRIMITIVES:%=build/%.o)
+	@$(call archive,primitives)
+
+# An archive with an object for each of these crates, once they are proved. An object has its crate's exported calls alone.
+archive = rt check $(1) && for crate in $(1); do \
+    rt staticlib $$crate >build/staticlib 2>&1 || { cat build/staticlib; exit 1; }; \
+    ar x --output build target/staticlib/lib$$crate.a || exit 1; done && rm -f $@ && ar rcs $@ $(1:%=build/%.o)
+
+# rt tries the edits of all that a crate uses, too: a copy of the tree, proved already, has this crate's alone.
+edits:
+	@test -d crates/$(CRATE)/must-fail || { echo 'make edits CRATE=NAME: the must-fail edits of crates/NAME'; exit 2; }
+	@rt check $(CRATE)
+	@rm -rf target/edits && mkdir -p target/edits/target
+	@cp -r crates crates.txt target/edits && cp -r target/rlib target/stamp target/log target/edits/target
+	@find target/edits/crates -name must-fail ! -path '*/$(CRATE)/*' -prune -exec rm -r {} +
+	@cd target/edits && rt must-fail $(CRATE)
 
 # Each installs what is missing.
 packages:
@@ -145,4 +150,4 @@ installed = printf '\#include <%s>\n' $(1) | g++ -x c++ -E - >/dev/null 2>&1 || 
 build:
 	@mkdir -p build
 
-.PHONY: test gate format programs demo install header vectors differential sanitized mutants printed compare bench packages bench-packages
+.PHONY: test gate edits format programs demo install header vectors differential sanitized mutants printed compare bench packages bench-packages

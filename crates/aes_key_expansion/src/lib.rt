@@ -1,4 +1,5 @@
-// KeyExpansion (FIPS 197, 5.2).
+// The key sizes, KeyExpansion (FIPS 197, 5.2), and the round keys of a schedule. A schedule is made once and lent: 60 words, of
+// which a 128-bit key uses 44.
 use aes_add_round_key::add_word;
 use aes_sub_bytes::sub_word;
 ghost use mathlib.Core.Path.{_≡_};
@@ -7,6 +8,24 @@ ghost use Rattle.aes_sbox.specs.SBox.{IsTable, sBox};
 ghost use Rattle.aes_key_expansion.specs.KeySizes.{nk, nr};
 ghost use Rattle.aes_key_expansion.specs.KeyExpansion.{rotWord, rcon, keyWord, nextWord, schedule};
 ghost use Rattle.aes_key_expansion.specs.RoundKey.{roundKey};
+
+// AES-128 and AES-256.
+pub enum KeySize {
+    Aes128,
+    Aes256,
+}
+
+impl KeySize {
+    // Nr.
+    pub fn rounds(self) -> usize
+        ensures { λ result. ⌜ result ≡ nr self ⌝ }
+    {
+        match self {
+            KeySize::Aes128 => 10,
+            KeySize::Aes256 => 14,
+        }
+    }
+}
 
 // FIPS 197, Table 5: the first byte of each round constant, from Rcon[1] on.
 const RCON: [u8; 10] = [0x01, 0x02, 0x04, 0x08, 0x10, 0x20, 0x40, 0x80, 0x1b, 0x36];
@@ -84,27 +103,6 @@ pub fn key_expansion(size: KeySize, key: [u8; 32]) -> [[u8; 4]; 60]
         i += 1;
     }
     w
-}
-
-// ---- The key sizes, and the round keys of a key schedule (FIPS 197, 5). A schedule is made once and lent: 60 words, of which a
-// 128-bit key uses 44.
-
-// AES-128 and AES-256.
-pub enum KeySize {
-    Aes128,
-    Aes256,
-}
-
-impl KeySize {
-    // Nr.
-    pub fn rounds(self) -> usize
-        ensures { λ result. ⌜ result ≡ nr self ⌝ }
-    {
-        match self {
-            KeySize::Aes128 => 10,
-            KeySize::Aes256 => 14,
-        }
-    }
 }
 
 // The four words of a round key.

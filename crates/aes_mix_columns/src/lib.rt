@@ -1,4 +1,4 @@
-// MixColumns (FIPS 197, 5.1.3): each entry is its row of products.
+// MixColumns (FIPS 197, 5.1.3), and InvMixColumns (5.3.3), which undoes it: each entry is its row of products.
 use aes_gf::x_times;
 ghost use mathlib.Core.Path.{_≡_};
 ghost use Rattle.aes_gf.specs.Field.{_•_};
@@ -41,8 +41,6 @@ pub fn mix_columns(s: [[u8; 4]; 4]) -> [[u8; 4]; 4]
         mix_column(s[3]),
     ]
 }
-
-// ---- InvMixColumns (FIPS 197, 5.3.3): each entry is its row of products.
 
 // The products of InvMixColumns, by repeated doubling.
 fn times_09(a: u8) -> u8

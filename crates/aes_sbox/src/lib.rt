@@ -1,4 +1,4 @@
-// FIPS 197's S-box and its inverse, as tables.
+// FIPS 197's S-box and its inverse as tables, and the S-box by its rule, which the tests hold the table to.
 mod tables;
 
 use aes_gf::multiply;
@@ -24,8 +24,6 @@ pub fn inv_sbox() -> [u8; 256]
 {
     INV_SBOX
 }
-
-// ---- FIPS 197's S-box by its rule, with no table: what the table is compared with.
 
 // b to the power 2^n - 1.
 fn powers(n: usize, b: u8) -> u8

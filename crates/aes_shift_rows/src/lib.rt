@@ -1,4 +1,4 @@
-// ShiftRows (FIPS 197, 5.1.2); the definition of InvShiftRows, which undoes it.
+// ShiftRows (FIPS 197, 5.1.2), and InvShiftRows (5.3.1), which undoes it.
 ghost use mathlib.Core.Path.{_≡_};
 ghost use Rattle.aes_shift_rows.specs.ShiftRows.{shiftRows, invShiftRows};
 
@@ -17,8 +17,6 @@ pub fn shift_rows(s: [[u8; 4]; 4]) -> [[u8; 4]; 4]
         [d[0], a[1], b[2], c[3]],
     ]
 }
-
-// ---- InvShiftRows (FIPS 197, 5.3.1).
 
 // FIPS 197, 5.3.1: InvShiftRows.
 pub fn inv_shift_rows(s: [[u8; 4]; 4]) -> [[u8; 4]; 4]

@@ -14,8 +14,6 @@ pub fn state_of(input: [u8; 16]) -> [[u8; 4]; 4]
     ]
 }
 
-// ---- The 16 bytes of a State (FIPS 197, 3.4).
-
 // FIPS 197, 3.4: the 16 bytes of a State.
 pub fn bytes_of(s: [[u8; 4]; 4]) -> [u8; 16]
     ensures { λ output. ⌜ output ≡ bytesOf s ⌝ }

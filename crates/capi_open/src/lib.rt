@@ -58,19 +58,7 @@ pub extern "C" fn pivsm_open_card(
     )
 }
 
-// ---- The bytes of a session that was opened, for programs in C (c/include/pivsm.h).
-
-// What a refusal gives.
-fn refused(refusal: Refusal, len: &mut usize) -> u32
-    ensures number { λ number. ⌜ number ≡ refusalValues refusal .number ⌝ }
-    ensures len { λ _. ⌜ now (len .exit) ≡ refusalValues refusal .len ⌝ }
-{
-    let values = refusal_values(refusal);
-    *len = values.len;
-    values.number
-}
-
-// A session that was opened, and where there is room for it.
+// Writes the bytes of a session that was opened, where there is room for them.
 fn put_opened(opened: Opened, session: &mut [u8], len: &mut usize) -> u32
     ensures number { λ number. ⌜ number ≡ openGives (bytesOf opened (length (now (session .entry)))) .number ⌝ }
     ensures len { λ _. ⌜ now (len .exit) ≡ openGives (bytesOf opened (length (now (session .entry)))) .len ⌝ }
@@ -88,4 +76,14 @@ fn put_opened(opened: Opened, session: &mut [u8], len: &mut usize) -> u32
         }
         Opening::Refused(refusal) => refused(refusal, len),
     }
+}
+
+// Gives the numbers of a refusal.
+fn refused(refusal: Refusal, len: &mut usize) -> u32
+    ensures number { λ number. ⌜ number ≡ refusalValues refusal .number ⌝ }
+    ensures len { λ _. ⌜ now (len .exit) ≡ refusalValues refusal .len ⌝ }
+{
+    let values = refusal_values(refusal);
+    *len = values.len;
+    values.number
 }

@@ -1,4 +1,4 @@
-// Reassembling a command, for programs in C (c/include/pivsm.h).
+// Reassembling a command, for programs in C (c/include/pivsm.h). A chain of fragments is one number there.
 use capi_values::reassembly_values;
 use chain_command::CommandChain;
 use chain_reassemble_command::reassemble_command;
@@ -45,8 +45,7 @@ pub extern "C" fn pivsm_reassemble_command(
     values.number
 }
 
-// ---- A chain of command fragments as one number, for programs in C (c/include/pivsm.h).
-
+// The chain that a number stands for.
 fn chain_of(n: u64) -> CommandChain
     ensures { λ chain. ⌜ chain ≡ chainOf n ⌝ }
 {
@@ -64,6 +63,7 @@ fn wide(b: u8) -> u64
     b as u64
 }
 
+// The number of a chain.
 fn chain_number(chain: CommandChain) -> u64
     requires { ⌜ chain .len ≤ 2066 ⌝ }
     ensures { λ n. ⌜ n ≡ chainNumber chain ⌝ }

@@ -1,5 +1,5 @@
-// The session of a call from C: bytes at the start of a buffer that the caller keeps (document 01, "The saved session"). Definitions and their
-// laws, and no code.
+// The session of a call from C: read from the start of a buffer that the caller keeps, and the next one written back there
+// (document 01, "The saved session").
 use session::Session;
 use session_bytes::Decoded;
 use session_bytes::decode;

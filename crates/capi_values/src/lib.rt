@@ -91,8 +91,6 @@ pub fn response_values(answer: ResponseAnswer) -> Values
     }
 }
 
-// ---- The numbers that the answers of command chaining are given as in C (c/include/pivsm.h).
-
 pub fn fragment_values(answer: FragmentAnswer) -> Values
     ensures { λ values. ⌜ values ≡ fragmentValues answer ⌝ }
 {
@@ -120,8 +118,6 @@ pub fn reassembly_values(answer: ReassemblyAnswer) -> Values
         ReassemblyAnswer::Refused(refusal) => refusal_values(refusal),
     }
 }
-
-// ---- The numbers that the answers of response chaining are given as in C (c/include/pivsm.h).
 
 pub fn response_fragment_values(answer: ResponseFragmentAnswer) -> Values
     ensures { λ values. ⌜ values ≡ responseFragmentValues answer ⌝ }

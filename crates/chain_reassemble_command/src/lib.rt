@@ -45,9 +45,7 @@ pub fn reassemble_command(chain: CommandChain, apdu: &[u8], out: &mut [u8]) -> R
     }
 }
 
-// ---- The chain of command fragments: empty, and after a fragment that is taken (document 01, "The wire").
-
-// What a caller starts with.
+// The chain that a caller starts with.
 fn empty_chain() -> CommandChain
     ensures { λ chain. ⌜ chain ≡ empty ⌝ }
 {
@@ -59,7 +57,7 @@ fn empty_chain() -> CommandChain
     }
 }
 
-// Of a fragment that is taken: the bytes so far, and whether it is the last.
+// The answer to a fragment that is taken, and the next chain: n bytes so far.
 fn taken(ins: u8, p1: u8, p2: u8, n: usize, last: bool) -> Reassembly
     ensures { λ r. ⌜ r ≡ taken (header ins p1 p2) n last ⌝ }
 {

@@ -15,18 +15,6 @@ ghost use Rattle.octets.specs.Write.{put};
 ghost use Rattle.chain_response.specs.Reassembly.{dataOf, statusOf, isMore, empty, total, taken, reassembleResponse, reassemblyBuffer, getResponse};
 ghost use Rattle.message_answer.specs.Message.{status};
 
-// The data of a fragment that passed its tests, behind what stands in the caller's buffer.
-fn take_fragment(chain: ResponseChain, bytes: &[u8], out: &mut [u8]) -> ResponseReassembly
-    requires { ⌜ (2 ≤ length (now bytes)) × (total chain (now bytes) ≤ length (now out)) ⌝ }
-    ensures result { λ r. ⌜ r ≡ taken (statusOf (now (bytes .entry))) (total chain (now (bytes .entry))) (isMore (now (bytes .entry))) ⌝ }
-    ensures output { λ _. ⌜ now (out .exit) ≡ put (now (out .entry)) (chain .len) (dataOf (now (bytes .entry))) ⌝ }
-{
-    let len = chain.len;
-    let end = bytes.len() - 2;
-    let n = put_bytes(out, len, &bytes[..end]);
-    taken(bytes[end], bytes[end + 1], n, is_more(bytes))
-}
-
 // One fragment of a response: refusals 7, 14, 4 and 6, and each drops the chain.
 pub fn reassemble_response(chain: ResponseChain, bytes: &[u8], out: &mut [u8]) -> ResponseReassembly
     ensures result { λ r. ⌜ r ≡ reassembleResponse chain (now (bytes .entry)) (length (now (out .entry))) ⌝ }
@@ -43,23 +31,26 @@ pub fn reassemble_response(chain: ResponseChain, bytes: &[u8], out: &mut [u8]) -
     }
 }
 
-// ---- The chain of response fragments: empty, after a fragment that is taken, and the GET RESPONSE that asks for the next (document 01, "The wire").
+// The data of a fragment that passed its tests, behind what stands in the caller's buffer.
+fn take_fragment(chain: ResponseChain, bytes: &[u8], out: &mut [u8]) -> ResponseReassembly
+    requires { ⌜ (2 ≤ length (now bytes)) × (total chain (now bytes) ≤ length (now out)) ⌝ }
+    ensures result { λ r. ⌜ r ≡ taken (statusOf (now (bytes .entry))) (total chain (now (bytes .entry))) (isMore (now (bytes .entry))) ⌝ }
+    ensures output { λ _. ⌜ now (out .exit) ≡ put (now (out .entry)) (chain .len) (dataOf (now (bytes .entry))) ⌝ }
+{
+    let len = chain.len;
+    let end = bytes.len() - 2;
+    let n = put_bytes(out, len, &bytes[..end]);
+    taken(bytes[end], bytes[end + 1], n, is_more(bytes))
+}
 
-// What a caller starts with.
+// The chain that a caller starts with.
 fn empty_chain() -> ResponseChain
     ensures { λ chain. ⌜ chain ≡ empty ⌝ }
 {
     ResponseChain { len: 0 }
 }
 
-// What to send next, with Le as the last fragment's status word gives it.
-pub fn get_response(le: u8) -> [u8; 5]
-    ensures { λ apdu. ⌜ apdu ≡ getResponse le ⌝ }
-{
-    [0x00, 0xC0, 0x00, 0x00, le]
-}
-
-// Of a fragment that is taken: the bytes so far, and whether more follow.
+// The answer to a fragment that is taken, and the next chain: n bytes so far.
 fn taken(sw1: u8, sw2: u8, n: usize, more: bool) -> ResponseReassembly
     ensures { λ r. ⌜ r ≡ taken (status sw1 sw2) n more ⌝ }
 {
@@ -75,4 +66,11 @@ fn taken(sw1: u8, sw2: u8, n: usize, more: bool) -> ResponseReassembly
         answer: ResponseReassemblyAnswer::Whole(n, sw1, sw2),
         chain: none,
     }
+}
+
+// The GET RESPONSE to send next, with Le as the last fragment's status word gives it.
+pub fn get_response(le: u8) -> [u8; 5]
+    ensures { λ apdu. ⌜ apdu ≡ getResponse le ⌝ }
+{
+    [0x00, 0xC0, 0x00, 0x00, le]
 }

@@ -1,4 +1,5 @@
-// BER-TLV data objects of secure messaging (SP 800-73-4 Part 2, 4.2.1): their lengths.
+// The lengths of BER-TLV data objects (SP 800-73-4 Part 2, 4.2.1). The shortest form is written. Any form of one to three bytes is
+// read; whether it was the shortest is asked apart.
 use octets::put_bytes;
 ghost use mathlib.Core.Path.{_≡_};
 ghost use lib.ListN.{length};
@@ -32,8 +33,6 @@ pub fn is_shortest(n: usize, size: usize) -> bool
     size == length_size(n)
 }
 
-// ---- The length field of a BER-TLV data object, written (SP 800-73-4 Part 2, 4.2.1).
-
 // Writes n's shortest length field; the index behind it.
 pub fn put_length(out: &mut [u8], at: usize, n: usize) -> usize
     requires { ⌜ (n < 65536) × (at + length (lengthField n) ≤ length (now out)) ⌝ }
@@ -47,8 +46,6 @@ pub fn put_length(out: &mut [u8], at: usize, n: usize) -> usize
     }
     put_bytes(out, at, &[0x82, (n / 256 % 256) as u8, (n % 256) as u8])
 }
-
-// ---- A BER length, read in any form of one to three bytes; whether that was the shortest is asked apart.
 
 fn wide(b: u8) -> usize
     ensures { λ r. ⌜ r ≡ b ⌝ }

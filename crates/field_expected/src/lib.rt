@@ -1,4 +1,4 @@
-// What a secure messaging field should hold, and the tag and the need of its second object (document 01, "Objects, encryption and MAC").
+// What a secure messaging field should hold: which objects, their tags, and their order (document 01, "Objects, encryption and MAC").
 ghost use mathlib.Core.Path.{_≡_};
 ghost use Rattle.field_expected.specs.Wanted.{tagOf, needOf, may, rank, allowed};
 
@@ -39,8 +39,6 @@ pub fn second_need(second: Second) -> Need
         Second::Status(_, _) => Need::Must,
     }
 }
-
-// ---- Which tag may stand where in a field (document 01, "Objects, encryption and MAC").
 
 fn may(need: Need) -> bool
     ensures { λ r. ⌜ r ≡ may need ⌝ }

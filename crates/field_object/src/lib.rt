@@ -85,8 +85,6 @@ fn malformed(rule: Rule, tag: u8, offset: usize) -> ObjectRead
     ObjectRead::Malformed(Breach { rule, tag, offset })
 }
 
-// ---- One step of a reader of fields: what it reads, and its index then (document 01, "Objects, encryption and MAC").
-
 // What a reader read, and its index then.
 pub struct Step {
     pub read: ObjectRead,

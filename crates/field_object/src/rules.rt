@@ -1,10 +1,40 @@
-// The value that an object of a field must have (document 01, "Objects, encryption and MAC").
+// The length and the value that an object of a field must have (document 01, "Objects, encryption and MAC").
 use field_expected::Second;
 use field_expected::Wanted;
 ghost use mathlib.Core.Path.{_≡_};
 ghost use Prim.Native.Nat.{_+_};
 ghost use lib.ListN.{getD};
 ghost use Rattle.field_object.specs.Values.{rightSecond, rightValue, sizeOf, rightSize};
+
+fn second_size(second: Second) -> usize
+    ensures { λ r. ⌜ r ≡ sizeOf second ⌝ }
+{
+    match second {
+        Second::Le(_) => 1,
+        Second::Status(_, _) => 2,
+    }
+}
+
+// Whether n is a length of the object of that tag.
+pub fn right_size(wanted: Wanted, tag: u8, n: usize) -> bool
+    ensures { λ r. ⌜ r ≡ rightSize wanted tag n ⌝ }
+{
+    let limit = wanted.limit;
+    let second = wanted.second;
+    if tag == 0x87 {
+        if n < 17 {
+            return false;
+        }
+        if (n - 1) % 16 != 0 {
+            return false;
+        }
+        return n - 1 <= limit;
+    }
+    if tag == 0x8E {
+        return n == 8;
+    }
+    n == second_size(second)
+}
 
 fn byte_at(bytes: &[u8], at: usize) -> u8
     ensures { λ r. ⌜ r ≡ getD (now (bytes .entry)) at 0 ⌝ }
@@ -50,36 +80,4 @@ pub fn right_value(wanted: Wanted, tag: u8, bytes: &[u8], at: usize) -> bool
         return true;
     }
     right_second(second, bytes, at)
-}
-
-// ---- The lengths that an object of a field may have (document 01, "Objects, encryption and MAC").
-
-fn second_size(second: Second) -> usize
-    ensures { λ r. ⌜ r ≡ sizeOf second ⌝ }
-{
-    match second {
-        Second::Le(_) => 1,
-        Second::Status(_, _) => 2,
-    }
-}
-
-// Whether n is a length of the object of that tag.
-pub fn right_size(wanted: Wanted, tag: u8, n: usize) -> bool
-    ensures { λ r. ⌜ r ≡ rightSize wanted tag n ⌝ }
-{
-    let limit = wanted.limit;
-    let second = wanted.second;
-    if tag == 0x87 {
-        if n < 17 {
-            return false;
-        }
-        if (n - 1) % 16 != 0 {
-            return false;
-        }
-        return n - 1 <= limit;
-    }
-    if tag == 0x8E {
-        return n == 8;
-    }
-    n == second_size(second)
 }

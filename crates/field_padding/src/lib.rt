@@ -1,4 +1,4 @@
-// The padding of command and response data (SP 800-73-4 Part 2, 4.2.2).
+// The padding of command and response data (SP 800-73-4 Part 2, 4.2.2): written, and the data's length found again.
 use octets::put_byte;
 use octets::put_zeros;
 ghost use mathlib.Core.Path.{_≡_};
@@ -30,8 +30,6 @@ pub fn put_padding(out: &mut [u8], at: usize, p: usize) -> usize
     let next = put_byte(out, at, 0x80);
     put_zeros(out, next, n)
 }
-
-// ---- Where the data of a padded string ends (SP 800-73-4 Part 2, 4.2.2).
 
 // The last byte that isn't zero, at index n, must be '80', with data before it.
 fn marked(b: u8, n: usize) -> Unpadded

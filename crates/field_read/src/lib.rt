@@ -17,6 +17,26 @@ ghost use Prim.Native.Nat.{_+_, _≤_};
 ghost use Rattle.field_read.specs.Field.{noted, refused, ended, readField};
 ghost use Rattle.field_expected.specs.Wanted.{lacks};
 
+// What stands in a field. '87', if it is there, stands first.
+pub struct Objects {
+    // The encrypted data, behind the padding-content indicator byte; no bytes where there is no '87'.
+    pub ciphertext: usize,
+    pub ciphertext_len: usize,
+    // Whether '97' or '99' is there.
+    pub second: bool,
+    // Where '8E' starts, which the MAC does not cover, and its eight bytes.
+    pub mac_start: usize,
+    pub mac: usize,
+}
+
+pub enum FieldRead {
+    Read(Objects),
+    // The first breach.
+    Malformed(Breach),
+    // No breach, but an object is lacking: the first one in the side's list, and the field's end.
+    Missing(u8, usize),
+}
+
 // The objects of a field, or the first breach, or the first object that is lacking.
 pub fn read_field(wanted: Wanted, field: &[u8]) -> FieldRead
     ensures { λ r. ⌜ r ≡ readField wanted (now (field .entry)) ⌝ }
@@ -43,29 +63,6 @@ pub fn read_field(wanted: Wanted, field: &[u8]) -> FieldRead
         at = step.at;
     }
     ended(wanted, objects, place, field.len())
-}
-
-// ---- What stands in a secure messaging field, object by object, and what the walk over it ends with (SP 800-73-4 Part 2, 4.2; document 01,
-// "Objects, encryption and MAC").
-
-// What stands in a field. '87', if it is there, stands first.
-pub struct Objects {
-    // The encrypted data, behind the padding-content indicator byte; no bytes where there is no '87'.
-    pub ciphertext: usize,
-    pub ciphertext_len: usize,
-    // Whether '97' or '99' is there.
-    pub second: bool,
-    // Where '8E' starts, which the MAC does not cover, and its eight bytes.
-    pub mac_start: usize,
-    pub mac: usize,
-}
-
-pub enum FieldRead {
-    Read(Objects),
-    // The first breach.
-    Malformed(Breach),
-    // No breach, but an object is lacking: the first one in the side's list, and the field's end.
-    Missing(u8, usize),
 }
 
 // The objects with one more.

@@ -1,4 +1,5 @@
-// A reader that keeps the lent field and its place (document 01, "Objects, encryption and MAC").
+// A reader that keeps the lent field and its index (document 01, "Objects, encryption and MAC"). A Reader is made for each object: read_field keeps the
+// index between two of them, and so needs no proof by hand.
 use field_expected::Wanted;
 use field_object::ObjectRead;
 use field_object::Step;
@@ -35,7 +36,7 @@ impl<'a> Reader<'a> {
     }
 }
 
-// One step of a reader at index `at`. A caller needs no Reader, and so no proof by hand.
+// One step of a reader that starts at index `at`.
 pub fn read_at(wanted: Wanted, after: usize, field: &[u8], at: usize) -> Step
     requires { ⌜ at < length (now field) ⌝ }
     ensures { λ r. ⌜ r ≡ readStep wanted after (now (field .entry)) at ⌝ }

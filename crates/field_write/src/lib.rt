@@ -1,5 +1,5 @@
-// The data objects of a secure messaging field, written in the side's order (SP 800-73-4 Part 2, 4.2). Room is checked once, by
-// the caller and before the first byte, with command_length or response_length of field_lengths.
+// The data objects of a secure messaging field, written in the side's order (SP 800-73-4 Part 2, 4.2). The caller checks the room
+// once, before the first byte, with command_length or response_length of field_size.
 use field_ber_length::put_length;
 use octets::put_byte;
 use octets::put_bytes;
@@ -9,27 +9,6 @@ ghost use mathlib.Core.List.{[], _∷_, _++_};
 ghost use Rattle.octets.specs.Write.{Wrote};
 ghost use Rattle.field_write.specs.Objects.{leObject, macObject, encryptedData, commandObjects, responseObjects};
 ghost use Rattle.field_ber_length.specs.Length.{lengthField};
-
-fn put_le(out: &mut [u8], at: usize, le: bool) -> usize
-    requires { ⌜ at + length (leObject le) ≤ length (now out) ⌝ }
-    ensures { λ next. ⌜ Wrote (now (out .entry)) at (leObject le) next (now (out .exit)) ⌝ }
-{
-    if le {
-        return put_bytes(out, at, &[0x97, 0x01, 0x00]);
-    }
-    at
-}
-
-// The MAC's object, last in a field; the index behind it.
-pub fn put_mac(out: &mut [u8], at: usize, mac: [u8; 8]) -> usize
-    requires { ⌜ at + 10 ≤ length (now out) ⌝ }
-    ensures { λ next. ⌜ Wrote (now (out .entry)) at (macObject mac) next (now (out .exit)) ⌝ }
-{
-    let n = put_bytes(out, at, &[0x8E, 0x08]);
-    put_bytes(out, n, &mac)
-}
-
-// ---- The object of encrypted data, '87' (SP 800-73-4 Part 2, 4.2). Room is checked by the caller, as for `objects`.
 
 // Tag, length and padding-content indicator byte of e bytes of encrypted data.
 fn put_data_header(out: &mut [u8], at: usize, e: usize) -> usize
@@ -41,6 +20,7 @@ fn put_data_header(out: &mut [u8], at: usize, e: usize) -> usize
     put_byte(out, v, 0x01)
 }
 
+// The object '87'; nothing where there is no encrypted data.
 fn put_encrypted_data(out: &mut [u8], at: usize, ciphertext: &[u8]) -> usize
     requires { ⌜ (length (now ciphertext) < 65535) × (at + length (encryptedData (now ciphertext)) ≤ length (now out)) ⌝ }
     ensures { λ next. ⌜ Wrote (now (out .entry)) at (encryptedData (now (ciphertext .entry))) next (now (out .exit)) ⌝ }
@@ -52,7 +32,16 @@ fn put_encrypted_data(out: &mut [u8], at: usize, ciphertext: &[u8]) -> usize
     put_bytes(out, n, ciphertext)
 }
 
-// ---- The objects of a field that its MAC covers, written in their order (SP 800-73-4 Part 2, 4.2.3).
+// The object '97', where Le is present.
+fn put_le(out: &mut [u8], at: usize, le: bool) -> usize
+    requires { ⌜ at + length (leObject le) ≤ length (now out) ⌝ }
+    ensures { λ next. ⌜ Wrote (now (out .entry)) at (leObject le) next (now (out .exit)) ⌝ }
+{
+    if le {
+        return put_bytes(out, at, &[0x97, 0x01, 0x00]);
+    }
+    at
+}
 
 // The objects that a command's MAC covers, from index 0 on; the index behind them.
 pub fn put_command_objects(out: &mut [u8], ciphertext: &[u8], le: bool) -> usize
@@ -70,4 +59,13 @@ pub fn put_response_objects(out: &mut [u8], ciphertext: &[u8], sw1: u8, sw2: u8)
 {
     let n = put_encrypted_data(out, 0, ciphertext);
     put_bytes(out, n, &[0x99, 0x02, sw1, sw2])
+}
+
+// The MAC's object, last in a field; the index behind it.
+pub fn put_mac(out: &mut [u8], at: usize, mac: [u8; 8]) -> usize
+    requires { ⌜ at + 10 ≤ length (now out) ⌝ }
+    ensures { λ next. ⌜ Wrote (now (out .entry)) at (macObject mac) next (now (out .exit)) ⌝ }
+{
+    let n = put_bytes(out, at, &[0x8E, 0x08]);
+    put_bytes(out, n, &mac)
 }

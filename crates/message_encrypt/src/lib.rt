@@ -17,7 +17,7 @@ ghost use Rattle.field_padding.specs.Padding.{pad, paddedLength};
 ghost use Rattle.aes.specs.Aes.{ciph};
 ghost use Rattle.mode_cbc.specs.Cbc.{cbcEncrypt};
 
-// The encrypted data, from index 0 on; the index behind it. Of no data it is nothing.
+// Writes the encrypted data from index 0 on, and gives the index after it. No data gives nothing.
 pub fn encrypt_text(
     suite: Suite,
     sk_enc: [u8; 32],
@@ -34,26 +34,7 @@ pub fn encrypt_text(
     encrypt_some(suite, sk_enc, counter, data, text)
 }
 
-// ---- Some data, padded and encrypted under the counter of its number (SP 800-73-4 Part 2, 4.2.2).
-
-// CBC encryption of the first n bytes.
-fn encrypt_start(size: KeySize, w: &[[u8; 4]; 60], iv: [u8; 16], text: &mut [u8], n: usize)
-    requires { ⌜ (n % 16 ≡ 0) × (n ≤ length (now text)) ⌝ }
-    ensures { λ _. ⌜ now (text .exit) ≡ over (now (text .entry)) (cbcEncrypt (ciph size (now (w .entry))) iv (take n (now (text .entry)))) ⌝ }
-{
-    mode_cbc::encrypt(size, w, iv, &mut text[..n]);
-}
-
-// Data and padding, from index 0 on; the index behind them.
-fn put_padded(text: &mut [u8], data: &[u8]) -> usize
-    requires { ⌜ paddedLength (length (now «data»)) ≤ length (now text) ⌝ }
-    ensures { λ n. ⌜ Wrote (now (text .entry)) 0 (pad (now («data» .entry))) n (now (text .exit)) ⌝ }
-{
-    let p = put_bytes(text, 0, data);
-    put_padding(text, p, data.len())
-}
-
-// Of some data: encrypted, from index 0 on; the index behind it.
+// The same of at least one byte of data.
 fn encrypt_some(
     suite: Suite,
     sk_enc: [u8; 32],
@@ -70,4 +51,21 @@ fn encrypt_some(
     let n = put_padded(text, data);
     encrypt_start(size, &w, iv, text, n);
     n
+}
+
+// Writes data and padding from index 0 on, and gives the index after them.
+fn put_padded(text: &mut [u8], data: &[u8]) -> usize
+    requires { ⌜ paddedLength (length (now «data»)) ≤ length (now text) ⌝ }
+    ensures { λ n. ⌜ Wrote (now (text .entry)) 0 (pad (now («data» .entry))) n (now (text .exit)) ⌝ }
+{
+    let p = put_bytes(text, 0, data);
+    put_padding(text, p, data.len())
+}
+
+// CBC encryption of the first n bytes.
+fn encrypt_start(size: KeySize, w: &[[u8; 4]; 60], iv: [u8; 16], text: &mut [u8], n: usize)
+    requires { ⌜ (n % 16 ≡ 0) × (n ≤ length (now text)) ⌝ }
+    ensures { λ _. ⌜ now (text .exit) ≡ over (now (text .entry)) (cbcEncrypt (ciph size (now (w .entry))) iv (take n (now (text .entry)))) ⌝ }
+{
+    mode_cbc::encrypt(size, w, iv, &mut text[..n]);
 }

@@ -1,4 +1,4 @@
-// Which INS and statuses are permitted, and what Le and data each INS takes (document 01, "Objects, encryption and MAC").
+// Which INS and statuses are permitted, what Le and data each INS takes, and what a field is read for (document 01, "Objects, encryption and MAC").
 use field_expected::Need;
 use field_expected::Second;
 use field_expected::Wanted;
@@ -15,6 +15,11 @@ const CHANGE_REFERENCE_DATA: u8 = 0x24;
 const GET_DATA: u8 = 0xCB;
 
 const GENERAL_AUTHENTICATE: u8 = 0x87;
+
+// The most encrypted data in a field that is read.
+const MAX_COMMAND_CIPHERTEXT: usize = 2048;
+
+const MAX_RESPONSE_CIPHERTEXT: usize = 16384;
 
 pub fn ins_permitted(ins: u8) -> bool
     ensures { λ r. ⌜ r ≡ insPermitted ins ⌝ }
@@ -54,19 +59,35 @@ fn data_need(ins: u8) -> Need
     Need::May
 }
 
+// Whether an object that is there, or is not, suits the need of it.
+fn suits(need: Need, there: bool) -> bool
+    ensures { λ r. ⌜ r ≡ suits need there ⌝ }
+{
+    match need {
+        Need::Must => there,
+        Need::May => true,
+        Need::MustNot => !there,
+    }
+}
+
+// Whether a command with n bytes of data is permitted: its INS, and whether Le and data suit it.
+pub fn command_permitted(ins: u8, p1: u8, p2: u8, le: bool, n: usize) -> bool
+    ensures { λ r. ⌜ r ≡ commandPermitted (header ins p1 p2 le) n ⌝ }
+{
+    if ins_permitted(ins) {
+        if suits(data_need(ins), 0 < n) {
+            return suits(le_need(ins), le);
+        }
+    }
+    false
+}
+
 // A card may not wrap a status with SW1 '61'.
 pub fn status_permitted(sw1: u8, sw2: u8) -> bool
     ensures { λ r. ⌜ r ≡ statusPermitted (status sw1 sw2) ⌝ }
 {
     sw1 != 0x61
 }
-
-// ---- What the field of a command and of a response is read for (document 01, "Objects, encryption and MAC").
-
-// The most encrypted data in a field that is read.
-const MAX_COMMAND_CIPHERTEXT: usize = 2048;
-
-const MAX_RESPONSE_CIPHERTEXT: usize = 16384;
 
 // What a command's field is read for.
 pub fn command_wanted(ins: u8) -> Wanted
@@ -90,28 +111,4 @@ pub fn response_wanted(sw1: u8, sw2: u8) -> Wanted
         limit: MAX_RESPONSE_CIPHERTEXT,
         second: Second::Status(sw1, sw2),
     }
-}
-
-// ---- Whether a command is permitted: its INS, and whether Le and data suit it (document 01, "Objects, encryption and MAC").
-
-fn suits(need: Need, there: bool) -> bool
-    ensures { λ r. ⌜ r ≡ suits need there ⌝ }
-{
-    match need {
-        Need::Must => there,
-        Need::May => true,
-        Need::MustNot => !there,
-    }
-}
-
-// A command with n bytes of data.
-pub fn command_permitted(ins: u8, p1: u8, p2: u8, le: bool, n: usize) -> bool
-    ensures { λ r. ⌜ r ≡ commandPermitted (header ins p1 p2 le) n ⌝ }
-{
-    if ins_permitted(ins) {
-        if suits(data_need(ins), 0 < n) {
-            return suits(le_need(ins), le);
-        }
-    }
-    false
 }

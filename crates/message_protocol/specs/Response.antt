@@ -64,6 +64,7 @@ module _ (C : Ciphers) where
       gave (responseWrapped s (m .header) (responseCiphertext s (m .payload))))
       )
 
+  -- the host takes all 16 bytes of the full MAC as the next chaining value
   unfoldable pub responseAccepted : Session → StatusWord → Bytes → Objects → Bytes → Outcome Response
   responseAccepted s sw field o d =
       record { gives = record { header = sw; payload = d }; next = responseTaken s (responseMac s (coveredOf field o)) }

@@ -13,7 +13,7 @@ ghost use Rattle.message_protocol.specs.Command.{unwrapCommandChecks};
 
 const MAX_COMMAND_FIELD: usize = 2066;
 
-// Of an unwrap: a field of n bytes.
+// Tests an unwrap of a field of n bytes.
 pub fn unwrap_command_checks(session: Session, ins: u8, n: usize) -> Checked
     ensures { λ r. ⌜ r ≡ checked (unwrapCommandChecks session ins n) ⌝ }
 {

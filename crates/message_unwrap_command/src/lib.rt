@@ -1,5 +1,5 @@
 // The card unwraps a command (SP 800-73-4 Part 2, 4.2.2 to 4.2.4): the MAC is checked before anything is decrypted, the padding before anything is
-// written.
+// written. checks.rt gives refusals 1 to 5, field_read finds 7 and 8, and message_verify, which open.rt calls, gives 6, 9 and 10.
 mod checks;
 mod open;
 
@@ -20,7 +20,7 @@ ghost use Rattle.message_answer.specs.Answer.{concluded, buffer};
 ghost use Rattle.message_result.specs.Results.{commandResult};
 ghost use Rattle.message_unwrap_command.specs.UnwrapCommand.{unwrapCommand, readCommand, payloadOf};
 
-// Of a command that passed its tests: refusals 7 and 8, and those behind them.
+// Reads a command that passed its tests: refusals 7 and 8, then those of open_command.
 fn read_command(
     session: Session,
     ins: u8,

@@ -20,7 +20,7 @@ ghost use Rattle.message_answer.specs.Answer.{concluded, buffer};
 ghost use Rattle.message_protocol.specs.Command.{openCommand};
 ghost use Rattle.message_result.specs.Results.{commandResult};
 
-// Of a field whose objects are these: refusals 6, 9 and 10.
+// Opens a field whose objects are these: refusals 6, 9 and 10. The full MAC becomes the next command chaining value, all 16 bytes of it.
 pub fn open_command(
     session: Session,
     ins: u8,

@@ -13,7 +13,7 @@ ghost use Rattle.message_protocol.specs.Response.{unwrapResponseChecks};
 
 const MAX_RESPONSE_FIELD: usize = 16403;
 
-// Of an unwrap: a field of n bytes, and the status word that came with it.
+// Tests an unwrap of a field of n bytes, and the status word that came with it.
 pub fn unwrap_response_checks(session: Session, sw1: u8, sw2: u8, n: usize) -> Checked
     ensures { λ r. ⌜ r ≡ checked (unwrapResponseChecks session (status sw1 sw2) n) ⌝ }
 {

@@ -1,5 +1,5 @@
 // The host unwraps a response (SP 800-73-4 Part 2, 4.2.2 and 4.2.5): the MAC is checked before anything is decrypted, the padding before anything is
-// written.
+// written. checks.rt gives refusals 1, 2, 13 and 4, field_read finds 7 and 8, and message_verify, which open.rt calls, gives 6, 9 and 10.
 mod checks;
 mod open;
 
@@ -20,7 +20,7 @@ ghost use Rattle.message_answer.specs.Answer.{concluded, buffer};
 ghost use Rattle.message_result.specs.Results.{responseResult};
 ghost use Rattle.message_unwrap_response.specs.UnwrapResponse.{unwrapResponse, readResponse, payloadOf};
 
-// Of a response that passed its tests: refusals 7 and 8, and those behind them.
+// Reads a response that passed its tests: refusals 7 and 8, then those of open_response.
 fn read_response(session: Session, sw1: u8, sw2: u8, field: &[u8], out: &mut [u8]) -> ResponseResult
     requires { ⌜ session .count ≤ 65535 ⌝ }
     ensures result { λ r. ⌜ r ≡ responseResult (concluded session (readResponse session sw1 sw2 (now (field .entry)) (length (now (out .entry))))) ⌝ }

@@ -21,7 +21,7 @@ ghost use Rattle.message_answer.specs.Answer.{concluded, buffer};
 ghost use Rattle.message_protocol.specs.Response.{openResponse};
 ghost use Rattle.message_result.specs.Results.{responseResult};
 
-// Of a field whose objects are these: refusals 6, 9 and 10.
+// Opens a field whose objects are these: refusals 6, 9 and 10. The full MAC becomes the next response chaining value, all 16 bytes of it.
 pub fn open_response(
     session: Session,
     sw1: u8,

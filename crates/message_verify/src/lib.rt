@@ -21,7 +21,7 @@ pub enum Verified {
     Refused(Refusal),
 }
 
-// Of a field whose full MAC should be that one.
+// Checks the room, the MAC and the padding, and writes the data. `full` is the MAC that was computed.
 pub fn verified_text(
     suite: Suite,
     sk_enc: [u8; 32],

@@ -16,7 +16,7 @@ ghost use Rattle.message_protocol.specs.Command.{wrapCommandChecks};
 // The most data of a command.
 const MAX_COMMAND_DATA: usize = 2047;
 
-// Of a wrap: a command with n bytes of data, and a buffer of that size.
+// Tests a wrap of a command with n bytes of data into a buffer of that size.
 pub fn wrap_command_checks(
     session: Session,
     ins: u8,

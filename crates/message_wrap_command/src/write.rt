@@ -16,7 +16,7 @@ ghost use Rattle.message_answer.specs.Answer.{given};
 ghost use Rattle.message_result.specs.Results.{wrapResult};
 ghost use Rattle.message_wrap_command.specs.WrittenCommand.{commandWritten};
 
-// Of a command that passed its tests: the whole field, and the next session.
+// Writes the whole field of a command that passed its tests, and gives the next session.
 pub fn write_command(
     session: Session,
     ins: u8,

@@ -16,7 +16,7 @@ ghost use Rattle.message_protocol.specs.Response.{wrapResponseChecks};
 // The most data of a response.
 const MAX_RESPONSE_DATA: usize = 16383;
 
-// Of a wrap: a response with n bytes of data, and a buffer of that size.
+// Tests a wrap of a response with n bytes of data into a buffer of that size.
 pub fn wrap_response_checks(session: Session, sw1: u8, sw2: u8, n: usize, room: usize) -> Checked
     ensures { λ r. ⌜ r ≡ checked (wrapResponseChecks session (status sw1 sw2) n room) ⌝ }
 {

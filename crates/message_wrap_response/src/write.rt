@@ -16,7 +16,7 @@ ghost use Rattle.message_answer.specs.Answer.{given};
 ghost use Rattle.message_result.specs.Results.{wrapResult};
 ghost use Rattle.message_wrap_response.specs.WrittenResponse.{responseWritten};
 
-// Of a response that passed its tests: the whole field, and the next session.
+// Writes the whole field of a response that passed its tests, and gives the next session.
 pub fn write_response(session: Session, sw1: u8, sw2: u8, data: &[u8], out: &mut [u8]) -> WrapResult
     requires { ⌜ (session .count ≤ 65535) × (length (now «data») ≤ 16383) × (responseLength (length (now «data»)) ≤ length (now out)) ⌝ }
     ensures result { λ r. ⌜ r ≡ wrapResult (given (responseWritten session sw1 sw2 (now («data» .entry)))) ⌝ }

@@ -1,4 +1,4 @@
-// What the calls for C promise (c/include/primitives.h), and a key as C hands it in: its size, and its schedule.
+// AES, CBC and CMAC for C (c/include/primitives.h): for the benchmark and the comparison with another library.
 use aes_key_expansion::KeySize;
 use mode_cbc::Outcome;
 use mode_cmac::Cmac;
@@ -24,6 +24,7 @@ enum Key {
     BadLength,
 }
 
+// The size of a key as C hands it in.
 fn key_size(len: usize) -> Key
     ensures { λ result. ⌜ result ≡ keySize len ⌝ }
 {
@@ -36,6 +37,7 @@ fn key_size(len: usize) -> Key
     Key::BadLength
 }
 
+// Its schedule.
 fn expanded(size: KeySize, key: &[u8]) -> [[u8; 4]; 60]
     requires { ⌜ length (now key) ≤ 32 ⌝ }
     ensures { λ w. ⌜ w ≡ schedule size (over (zeros 32) (now (key .entry))) ⌝ }
@@ -44,8 +46,6 @@ fn expanded(size: KeySize, key: &[u8]) -> [[u8; 4]; 60]
     put_bytes(&mut bytes, 0, key);
     aes_key_expansion::key_expansion(size, bytes)
 }
-
-// ---- AES for C (c/include/primitives.h): for the benchmark and the comparison with another library.
 
 #[no_mangle]
 pub extern "C" fn pivsm_aes_encrypt(key: &[u8], block: &mut [u8]) -> u32
@@ -80,8 +80,6 @@ pub extern "C" fn pivsm_aes_decrypt(key: &[u8], block: &mut [u8]) -> u32
     put_bytes(block, 0, &result);
     DONE
 }
-
-// ---- CBC for C (c/include/primitives.h): for the benchmark and the comparison with another library.
 
 #[no_mangle]
 pub extern "C" fn pivsm_cbc_encrypt(key: &[u8], iv: &[u8], data: &mut [u8]) -> u32
@@ -118,8 +116,6 @@ pub extern "C" fn pivsm_cbc_decrypt(key: &[u8], iv: &[u8], data: &mut [u8]) -> u
         Outcome::PartialBlock => MALFORMED,
     }
 }
-
-// ---- CMAC for C (c/include/primitives.h): for the benchmark and the comparison with another library.
 
 // The MAC of head followed by rest.
 #[no_mangle]

@@ -1,4 +1,4 @@
-// The session as 138 bytes (document 01, "The saved session"): writing it, and the laws of writing and reading.
+// The session as 138 bytes (document 01, "The saved session"): written, read, and saved.
 mod read;
 
 use octets::put_bytes;
@@ -34,23 +34,34 @@ pub struct Decoded {
     pub session: Session,
 }
 
-fn side_number(side: Side) -> u8
-    ensures { λ n. ⌜ n ≡ sideNumber side ⌝ }
-{
-    match side {
-        Side::Host => 0,
-        Side::Card => 1,
-    }
+pub enum Encoding {
+    Encoded,
+    Refused(Refusal),
 }
 
-fn phase_number(phase: Phase) -> u8
-    ensures { λ n. ⌜ n ≡ phaseNumber phase ⌝ }
+// Saves a session: refusals 1 and 6. The calls from C write by put_session, since they have shown the room and the rules.
+pub fn encode(session: Session, out: &mut [u8]) -> Encoding
+    ensures answer { λ answer. ⌜ answer ≡ encoding session (length (now (out .entry))) ⌝ }
+    ensures output { λ answer. ⌜ now (out .exit) ≡ encodedIn (now (out .entry)) answer session ⌝ }
 {
-    match phase {
-        Phase::Ready => 0,
-        Phase::Pending => 1,
-        Phase::Closed => 2,
+    if valid(session) {
+        if SIZE <= out.len() {
+            put_session(session, out);
+            return Encoding::Encoded;
+        }
+        return Encoding::Refused(Refusal::BufferTooSmall(SIZE));
     }
+    Encoding::Refused(Refusal::SessionClosed)
+}
+
+// Writes any session; the caller has the room.
+pub fn put_session(session: Session, out: &mut [u8]) -> usize
+    requires { ⌜ 138 ≤ length (now out) ⌝ }
+    ensures { λ next. ⌜ Wrote (now (out .entry)) 0 (encode session) next (now (out .exit)) ⌝ }
+{
+    let k = put_header(session, out);
+    let m = put_keys(session, out, k);
+    put_mcvs(session, out, m)
 }
 
 fn put_header(session: Session, out: &mut [u8]) -> usize
@@ -82,6 +93,25 @@ fn put_header(session: Session, out: &mut [u8]) -> usize
     )
 }
 
+fn side_number(side: Side) -> u8
+    ensures { λ n. ⌜ n ≡ sideNumber side ⌝ }
+{
+    match side {
+        Side::Host => 0,
+        Side::Card => 1,
+    }
+}
+
+fn phase_number(phase: Phase) -> u8
+    ensures { λ n. ⌜ n ≡ phaseNumber phase ⌝ }
+{
+    match phase {
+        Phase::Ready => 0,
+        Phase::Pending => 1,
+        Phase::Closed => 2,
+    }
+}
+
 fn put_keys(session: Session, out: &mut [u8], at: usize) -> usize
     requires { ⌜ at + 96 ≤ length (now out) ⌝ }
     ensures { λ next. ⌜ Wrote (now (out .entry)) at (keys session) next (now (out .exit)) ⌝ }
@@ -104,18 +134,52 @@ fn put_mcvs(session: Session, out: &mut [u8], at: usize) -> usize
     put_bytes(out, r, &response_mcv)
 }
 
-// Of any session: the caller has the room.
-pub fn put_session(session: Session, out: &mut [u8]) -> usize
-    requires { ⌜ 138 ≤ length (now out) ⌝ }
-    ensures { λ next. ⌜ Wrote (now (out .entry)) 0 (encode session) next (now (out .exit)) ⌝ }
+// Reads a saved session: refusal 16.
+pub fn decode(bytes: &[u8]) -> Decoded
+    ensures decoded { λ decoded. ⌜ decoded ≡ decode (now (bytes .entry)) ⌝ }
+    ensures bytes { λ decoded. ⌜ IsBytes (now (bytes .entry)) ⌝ }
 {
-    let k = put_header(session, out);
-    let m = put_keys(session, out, k);
-    put_mcvs(session, out, m)
+    if headed(bytes) {
+        return decode_suite(bytes);
+    }
+    unreadable()
 }
 
-// ---- Reading a saved session (document 01, "The saved session").
+fn decode_suite(bytes: &[u8]) -> Decoded
+    requires { ⌜ length (now bytes) ≡ 138 ⌝ }
+    ensures { λ decoded. ⌜ decoded ≡ decodeSuite (now (bytes .entry)) (suiteOf (getD (now (bytes .entry)) 5 0)) ⌝ }
+{
+    let known = suite_of(wide(bytes[5]));
+    match known {
+        SuiteNumber::Known(suite) => accepted(session_from(bytes, suite)),
+        SuiteNumber::Unknown => unreadable(),
+    }
+}
 
+// A session that breaks the rules is not read.
+fn accepted(session: Session) -> Decoded
+    ensures { λ decoded. ⌜ decoded ≡ accepted session ⌝ }
+{
+    if valid(session) {
+        return Decoded {
+            answer: Decoding::Decoded,
+            session,
+        };
+    }
+    unreadable()
+}
+
+pub fn unreadable() -> Decoded
+    ensures { λ decoded. ⌜ decoded ≡ unreadable ⌝ }
+{
+    let session = Session::none(Side::Host);
+    Decoded {
+        answer: Decoding::Refused(Refusal::BadSession),
+        session,
+    }
+}
+
+// Whether the length and the bytes before the suite are right.
 fn headed(bytes: &[u8]) -> bool
     ensures { λ right. ⌜ right ≡ headed (now (bytes .entry)) ⌝ }
 {
@@ -135,70 +199,4 @@ fn headed(bytes: &[u8]) -> bool
         return false;
     }
     bytes[4] <= 2
-}
-
-pub fn unreadable() -> Decoded
-    ensures { λ decoded. ⌜ decoded ≡ unreadable ⌝ }
-{
-    let session = Session::none(Side::Host);
-    Decoded {
-        answer: Decoding::Refused(Refusal::BadSession),
-        session,
-    }
-}
-
-fn accepted(session: Session) -> Decoded
-    ensures { λ decoded. ⌜ decoded ≡ accepted session ⌝ }
-{
-    if valid(session) {
-        return Decoded {
-            answer: Decoding::Decoded,
-            session,
-        };
-    }
-    unreadable()
-}
-
-fn decode_suite(bytes: &[u8]) -> Decoded
-    requires { ⌜ length (now bytes) ≡ 138 ⌝ }
-    ensures { λ decoded. ⌜ decoded ≡ decodeSuite (now (bytes .entry)) (suiteOf (getD (now (bytes .entry)) 5 0)) ⌝ }
-{
-    let known = suite_of(wide(bytes[5]));
-    match known {
-        SuiteNumber::Known(suite) => accepted(session_from(bytes, suite)),
-        SuiteNumber::Unknown => unreadable(),
-    }
-}
-
-// Reads a saved session: refusal 16.
-pub fn decode(bytes: &[u8]) -> Decoded
-    ensures decoded { λ decoded. ⌜ decoded ≡ decode (now (bytes .entry)) ⌝ }
-    ensures bytes { λ decoded. ⌜ IsBytes (now (bytes .entry)) ⌝ }
-{
-    if headed(bytes) {
-        return decode_suite(bytes);
-    }
-    unreadable()
-}
-
-// ---- Saving a session in the caller's buffer (document 01, "The saved session").
-
-pub enum Encoding {
-    Encoded,
-    Refused(Refusal),
-}
-
-// Saves a session: refusals 1 and 6.
-pub fn encode(session: Session, out: &mut [u8]) -> Encoding
-    ensures answer { λ answer. ⌜ answer ≡ encoding session (length (now (out .entry))) ⌝ }
-    ensures output { λ answer. ⌜ now (out .exit) ≡ encodedIn (now (out .entry)) answer session ⌝ }
-{
-    if valid(session) {
-        if SIZE <= out.len() {
-            put_session(session, out);
-            return Encoding::Encoded;
-        }
-        return Encoding::Refused(Refusal::BufferTooSmall(SIZE));
-    }
-    Encoding::Refused(Refusal::SessionClosed)
 }

@@ -1,4 +1,5 @@
-// The cipher suites, their numbers and key lengths.
+// The cipher suites with their numbers and key lengths, and the session keys: as they are handed in, and in the 32 bytes that a
+// session stores.
 use octets::put_bytes;
 ghost use mathlib.Core.Path.{_≡_};
 ghost use Prim.Native.Nat.{_≤_};
@@ -51,8 +52,6 @@ impl Suite {
         }
     }
 }
-
-// ---- The session keys: as they are handed in, and in the 32 bytes that a session stores.
 
 // A key in its 32 bytes.
 pub fn stored(key: &[u8]) -> [u8; 32]

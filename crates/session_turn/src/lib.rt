@@ -1,4 +1,4 @@
-// Whose turn it is (document 01, "The session and whose turn it is").
+// Whose turn it is, and the session after a command and after its response (document 01, "The session and whose turn it is").
 use session::Phase;
 use session::Session;
 use session::Side;
@@ -55,8 +55,6 @@ pub fn is_turn(side: Side, phase: Phase, session: Session) -> bool
     }
     false
 }
-
-// ---- The session after a command and after its response (document 01, "The session and whose turn it is").
 
 // After a command wrapped, at the host, or accepted, at the card.
 pub fn command_taken(session: Session, mcv: [u8; 16]) -> Session
