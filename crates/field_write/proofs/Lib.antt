@@ -1,1 +1,2 @@
 pub mod FieldLengths
+pub mod Examples
