@@ -10,7 +10,7 @@ use Rattle.session.specs.declared.Session.{Session}
 use Rattle.session.specs.declared.Opened.{Opened}
 use Rattle.session.specs.declared.Opening.{Opening}
 use Rattle.session.specs.declared.Opening.the-variants.{Opened as Done, Refused}
-use Rattle.session_bytes.specs.Saved.{encode}
+use Rattle.session_bytes.specs.Saved.{sessionSize, encode}
 use Rattle.message_answer.specs.Answer.{Answer, refused, gave, require_else_⨾_}
 use Rattle.message_result.specs.Results.{wrapAnswer}
 use Rattle.capi_values.specs.Values.{wrapValues}
@@ -18,7 +18,7 @@ use Rattle.capi_values.specs.declared.Values.{Values}
 
 -- the bytes of the session that was opened: 6 where there is no room for them, after 11 and 12
 unfoldable pub openedAs : Opening → Session → ℕ → Answer Bytes
-openedAs Done s room = require leb 138 room else BufferTooSmall 138 ⨾ gave (encode s)
+openedAs Done s room = require leb sessionSize room else BufferTooSmall sessionSize ⨾ gave (encode s)
 openedAs (Refused r) s room = refused r
 
 abbrev pub bytesOf : Opened → ℕ → Answer Bytes

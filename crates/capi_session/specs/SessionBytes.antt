@@ -7,7 +7,7 @@ use Rattle.octets.specs.Bytes.{Bytes}
 use Rattle.octets.specs.Choice.{if_then_else_}
 use Rattle.octets.specs.Write.{over}
 use Rattle.session.specs.declared.Session.{Session}
-use Rattle.session_bytes.specs.Saved.{encode, decode, unreadable}
+use Rattle.session_bytes.specs.Saved.{sessionSize, encode, decode, unreadable}
 use Rattle.session_bytes.specs.declared.Decoded.{Decoded}
 use Rattle.session_bytes.specs.declared.Decoding.{Decoding}
 use Rattle.session_bytes.specs.declared.Decoding.the-variants.{Decoded as Done, Refused}
@@ -25,7 +25,7 @@ pub record Served (A : Type 0) : Type 0 where
 
 -- the next session in the place of the one that was read; all as it was where none could be read
 unfoldable pub servedBy : {A : Type 0} → Decoding → Bytes → ℕ → Out A → Served A
-servedBy Done held len out = record { answer = out .answer; session = over held (encode (out .next)); len = 138 }
+servedBy Done held len out = record { answer = out .answer; session = over held (encode (out .next)); len = sessionSize }
 servedBy (Refused r) held len out = record { answer = refused r; session = held; len = len }
 
 abbrev pub onSession : {A : Type 0} → Bytes → ℕ → (Session → Out A) → Served A

@@ -10,10 +10,8 @@ ghost use Prim.Native.Nat.{_≤_};
 ghost use lib.ListN.{length};
 ghost use Rattle.octets.specs.Bytes.{IsBytes};
 ghost use Rattle.octets.specs.Write.{over};
-ghost use Rattle.session_bytes.specs.Saved.{encode};
+ghost use Rattle.session_bytes.specs.Saved.{sessionSize, encode};
 ghost use Rattle.capi_session.specs.SessionBytes.{sessionIn};
-
-// The session of a call from C, read from the start of a buffer that the caller keeps and written back there (document 01, "The saved session").
 
 // The session of `len` bytes. A length beyond the buffer is a session that can't be read.
 pub fn session_in(held: &[u8], len: usize) -> Decoded
@@ -28,8 +26,8 @@ pub fn session_in(held: &[u8], len: usize) -> Decoded
 
 // The next session in the place of the one that was read, and its length.
 pub fn replace_session(next: Session, held: &mut [u8]) -> usize
-    requires { ⌜ 138 ≤ length (now held) ⌝ }
-    ensures len { λ len. ⌜ len ≡ 138 ⌝ }
+    requires { ⌜ sessionSize ≤ length (now held) ⌝ }
+    ensures len { λ len. ⌜ len ≡ sessionSize ⌝ }
     ensures bytes { λ _. ⌜ now (held .exit) ≡ over (now (held .entry)) (encode next) ⌝ }
 {
     put_session(next, held)

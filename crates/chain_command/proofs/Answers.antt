@@ -77,7 +77,7 @@ answer (Refused q) = number q ∷ extra q ∷ []
 answered : Reassembly → List ℕ
 answered r = answer (r .answer) ++ r .chain .len ∷ r .chain .ins ∷ r .chain .p1 ∷ r .chain .p2 ∷ []
 
--- an APDU with one byte of data, and one with no data
+-- an APDU with one byte of data: more follow, and it is the last
 more : ℕ → ℕ → ℕ → Bytes
 more ins p1 p2 = fragmentApdu false (header ins p1 p2) (5 ∷ [])
 

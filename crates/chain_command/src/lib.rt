@@ -1,7 +1,8 @@
-// Command chaining: a command field and the APDUs that carry it (document 01, "The wire"; SP 800-73-4 Part 2, 4.2.4). Types and definitions; no code.
+// Command chaining: a command field and the APDUs that carry it (document 01, "The wire"; SP 800-73-4 Part 2, 4.2.4). Types, definitions and
+// the theorem that the fragments of a field give it back; no code.
 use refusal::Refusal;
 
-// Of fragmenting: the length of the APDU that stands in the caller's buffer.
+// What fragmenting answers: the length of the APDU that stands in the caller's buffer, or a refusal.
 pub enum FragmentAnswer {
     Fragment(usize),
     Refused(Refusal),
@@ -16,7 +17,7 @@ pub struct CommandChain {
     pub p2: u8,
 }
 
-// Of reassembling.
+// What reassembling answers.
 pub enum ReassemblyAnswer {
     // More fragments follow: the bytes so far, and the status word to answer with.
     More(usize, u8, u8),

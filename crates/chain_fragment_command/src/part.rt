@@ -26,7 +26,7 @@ fn fragment_size(size: usize) -> usize
     size
 }
 
-// Of a field of n bytes.
+// How many fragments a field of n bytes has.
 pub fn fragment_count(n: usize, size: usize) -> usize
     requires { ⌜ (n ≤ 2066) × (size ≤ 255) ⌝ }
     ensures { λ count. ⌜ count ≡ fragmentCount n size ⌝ }

@@ -1,8 +1,8 @@
-// Response chaining: a response field and the responses that carry it, asked for by GET RESPONSE (document 01, "The wire"; ISO/IEC 7816-4). Types and
-// definitions; no code.
+// Response chaining: a response field and the responses that carry it, asked for by GET RESPONSE (document 01, "The wire"; ISO/IEC 7816-4). Types,
+// definitions and the theorem that the fragments asked for give the field back; no code.
 use refusal::Refusal;
 
-// Of fragmenting.
+// What fragmenting answers.
 pub enum ResponseFragmentAnswer {
     // The length of the fragment that stands in the caller's buffer, its status word included, and the index of the field where the next one starts.
     Fragment(usize, usize),
@@ -14,7 +14,7 @@ pub struct ResponseChain {
     pub len: usize,
 }
 
-// Of reassembling.
+// What reassembling answers.
 pub enum ResponseReassemblyAnswer {
     // More fragments follow: the bytes so far, and Le of the GET RESPONSE that asks for the next.
     More(usize, u8),

@@ -37,7 +37,7 @@ module _ (K : Keys) where
   Excepted st [] = ⊥
   Excepted st (e ∷ es) = BreaksIn aesCiphers K (st .transcript) (call e) (answer e) ⊎ Excepted (after st e) es
 
--- this exception is no wider than that of the definitions, which computed runs hold to what it should be (protocol_examples)
+-- this exception is no wider than that of the definitions, which computed runs hold to what it should be (message_protocol_examples)
 abbrev pub ExceptionNoWider : Type 0
 ExceptionNoWider =
     (K : Keys) (st : State) (calls : List Event) → Trace K st calls → Excepted K st calls → ExceptedRun aesCiphers K st (map call calls)

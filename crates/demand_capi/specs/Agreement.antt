@@ -88,7 +88,7 @@ Agreement =
     (calls : List Event) → Trace K st calls
     → Served K st calls × ((n : ℕ) → Agrees aesCiphers K (ran K st (take n calls) .transcript) ⊎ Excepted K st (take n calls))
 
--- this exception is no wider than that of the definitions, which computed runs hold to what it should be (protocol_examples)
+-- this exception is no wider than that of the definitions, which computed runs hold to what it should be (message_protocol_examples)
 abbrev pub ExceptionNoWider : Type 0
 ExceptionNoWider =
     (h : OpensHost) (c : OpensCard) → h .number ≡ 0 → c .number ≡ 0 → cardKeys c ≡ hostKeys h

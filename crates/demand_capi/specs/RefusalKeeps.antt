@@ -15,7 +15,7 @@ use Rattle.refusal.specs.Refusal.{number as numberOf, size, status as statusOf}
 use Rattle.refusal.specs.declared.Refusal.{Refusal}
 use Rattle.refusal.specs.declared.Refusal.the-variants.{BadSession}
 use Rattle.session.specs.declared.Session.{Session}
-use Rattle.session_bytes.specs.Saved.{encode}
+use Rattle.session_bytes.specs.Saved.{sessionSize, encode}
 use Rattle.session_bytes.specs.declared.Decoding.the-variants.{Refused as Unread}
 use Rattle.message_ciphers.specs.Aes.{aesCiphers}
 use Rattle.message_answer.specs.Answer.{Answer, refused}
@@ -33,7 +33,7 @@ pub record ClosedIn (e : Event) : Type 0 where
   pub session : Session
   pub is-closed : IsClosed (sessionIn (held e) (len e) .session) session
   pub bytes : heldAfter e ≡ over (held e) (encode session)
-  pub length : lenAfter e ≡ 138
+  pub length : lenAfter e ≡ sessionSize
 
 pub record Keeps (e : Event) : Type 0 where
   pub refusal : Refusal

@@ -1,2 +1,3 @@
 pub mod ObjectCases
 pub mod Inversion
+pub mod RightSizes

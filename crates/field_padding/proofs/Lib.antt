@@ -1,3 +1,4 @@
 pub mod Lengths
 pub mod Unpadding
 pub mod Examples
+pub mod PaddingRule

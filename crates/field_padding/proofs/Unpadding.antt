@@ -35,7 +35,7 @@ back-to-none (suc k) xs n e = let z : ⊥ = omega arith in absurd z
 
 -- ---- the data ends before the padding
 
-no-data : {m : ℕ} {P : Type 0} → BadPadding ≡ Data m → P
+pub no-data : {m : ℕ} {P : Type 0} → BadPadding ≡ Data m → P
 no-data e = let z : _≡_ {A = ℕ} 0 1 = cc in let o : ⊥ = omega arith in absurd o
 
 mark-at : (b n m : ℕ) → marked b n ≡ Data m → m ≡ n

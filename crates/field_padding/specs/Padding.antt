@@ -1,6 +1,7 @@
 -- SP 800-73-4 Part 2, 4.2.2: the padding of command and response data. Assumes nothing.
+use mathlib.Core.Path.{_≡_}
 use mathlib.Core.List.{_∷_, _++_}
-use Prim.Native.Nat.{ℕ, zero, suc, _+_, _*_, _-_, _/_, _%_, min}
+use Prim.Native.Nat.{ℕ, zero, suc, _+_, _*_, _-_, _/_, _%_, _<_, _≤_, min}
 use lib.Dec.{eqb}
 use lib.ListN.{length, getD}
 use Rattle.octets.specs.Bytes.{Bytes, zeros}
@@ -31,3 +32,11 @@ markBefore (suc k) xs n = if eqb (getD xs (n - 1) 0) 0 then markBefore k xs (n -
 -- padding is looked for in the last 16 bytes only
 unfoldable pub unpad : Bytes → Unpadded
 unpad xs = markBefore (min 16 (length xs)) xs (length xs)
+
+-- the rule: some data ends at index m, where '80' is the last byte that isn't zero, and it is among the last 16
+pub record PaddedAt (xs : Bytes) (m : ℕ) : Type 0 where
+  pub some-data : 0 < m
+  pub within : m < length xs
+  pub in-the-last-16 : length xs ≤ m + 16
+  pub mark : getD xs m 0 ≡ 0x80
+  pub zeros-after : (i : ℕ) → m < i → getD xs i 0 ≡ 0

@@ -6,6 +6,7 @@ use Rattle.octets.specs.Choice.{if_then_else_}
 use Rattle.octets.specs.Write.{over}
 use Rattle.refusal.specs.Refusal.{number}
 use Rattle.refusal.specs.declared.Refusal.{Refusal}
+use Rattle.refusal.specs.declared.Refusal.the-variants.{BadMac, BadPadding}
 use Rattle.session.specs.Session.{closed}
 use Rattle.session.specs.declared.Session.{Session}
 
@@ -32,9 +33,13 @@ pub record Out (A : Type 0) : Type 0 where
   pub answer : Answer A
   pub next : Session
 
+-- whether two refusals are the same, whatever they give beside their number
+abbrev pub is : Refusal → Refusal → Bool
+is r s = eqb (number r) (number s)
+
 -- a wrong MAC and wrong padding
 abbrev pub closes : Refusal → Bool
-closes r = eqb (number r) 9 || eqb (number r) 10
+closes r = is r BadMac || is r BadPadding
 
 -- they close the session; every other refusal keeps it as it was
 unfoldable pub afterRefusal : Session → Refusal → Session

@@ -3,7 +3,7 @@ ghost use mathlib.Core.Path.{_≡_};
 ghost use Prim.Native.Nat.{_<_};
 ghost use Rattle.message_counter.specs.Counter.{commandCounter, responseCounter};
 
-// Of command number i: i as 16 bytes, the highest first.
+// The counter of command number i: i as 16 bytes, the highest first.
 pub fn command_counter(i: u32) -> [u8; 16]
     requires { ⌜ i < 65536 ⌝ }
     ensures { λ counter. ⌜ counter ≡ commandCounter i ⌝ }
@@ -28,7 +28,7 @@ pub fn command_counter(i: u32) -> [u8; 16]
     ]
 }
 
-// Of its response: the same with '80' as its first byte.
+// The counter of its response: the same with '80' as its first byte.
 pub fn response_counter(i: u32) -> [u8; 16]
     requires { ⌜ i < 65536 ⌝ }
     ensures { λ counter. ⌜ counter ≡ responseCounter i ⌝ }

@@ -92,13 +92,6 @@ ready-pending e = let z : _≡_ {A = ℕ} 0 1 = cc in let o : ⊥ = omega arith 
 pub host-card : {P : Type 0} → Host ≡ Card → P
 host-card e = let z : _≡_ {A = ℕ} 0 1 = cc in let o : ⊥ = omega arith in absurd o
 
--- a session that counts as open has at most 65,535 commands
-pub open-count : (s : Session) → countsAsOpen s ≡ true → s .count ≤ 65535
-unfolding countsAsOpen valid
-open-count s e =
-    let a : (isOpen (s .phase) ≡ true) × ((leb (s .count) 65535 && keepsPhase s (s .phase)) ≡ true) = both (isOpen (s .phase)) (leb (s .count) 65535 && keepsPhase s (s .phase)) e in
-    leb-true (s .count) 65535 (both (leb (s .count) 65535) (keepsPhase s (s .phase)) (a .1) .0)
-
 pub closed-shut : {P : Type 0} (s : Session) → countsAsOpen (closed s) ≡ true → P
 unfolding countsAsOpen
 closed-shut s e = let z : _≡_ {A = ℕ} 0 1 = cc in let o : ⊥ = omega arith in absurd o

@@ -1,26 +1,23 @@
 -- Runs that the checker computes, with ciphers small enough to be computed: an honest run of two exchanges agrees and is not
 -- excepted; with a MAC that is always zeros, one run breaks each part of the claim.
 -- Assumes nothing.
-use mathlib.Core.Path.{_≡_, refl, sym, ap, ap₂, _∙_}
+use mathlib.Core.Path.{_≡_, refl, sym, ap, _∙_}
 use mathlib.Core.Logic.{inl, inr}
 use mathlib.Core.Bool.{Bool, true, false, _&&_, _||_, not}
-use mathlib.Core.List.{List, [], _∷_, _++_, foldr, map, List·Memᴰ, List·Memᴰ·head, List·Memᴰ·tail, List·Memᴰ·not-nil}
-use mathlib.Core.Option.{Option, some}
-use Prim.Native.Nat.{ℕ, zero, suc, _+_, _*_, _/_, _%_, _<_}
+use mathlib.Core.List.{List, [], _∷_, _++_, List·Memᴰ, List·Memᴰ·head, List·Memᴰ·tail, List·Memᴰ·not-nil}
+use Prim.Native.Nat.{ℕ, zero, suc, _<_}
 use native.Mathlib.Omega.{arith}
 use Rattle.message_ciphers.proofs.ByteLists.{bytes-nil, bytes-cons}
 use Rattle.message_protocol.proofs.Runs.{agreement}
-use borrow.Author.Tests.{ltb-true, eqb-true, eqb-false, ne-eqb}
-use lib.Dec.{eqb, ltb}
-use lib.ListN.{length, replicate, getD, take, length-map}
+use borrow.Author.Tests.{ltb-true}
+use lib.Dec.{ltb}
+use lib.ListN.{length, replicate, getD, take}
 use Rattle.octets.proofs.Tests.{both}
-use Rattle.octets.specs.Bytes.{Bytes, IsBytes, zeros, _⊕_}
+use Rattle.octets.specs.Bytes.{Bytes, IsBytes, zeros}
 use Rattle.octets.specs.Choice.{if_then_else_}
-use Rattle.octets.proofs.Xor.{xor-undo}
 use Rattle.message_mac.specs.Same.{same}
 use Rattle.message_mac.proofs.SameBytes.{same-eq, same-self}
 use Rattle.field_padding.specs.Padding.{padding, pad, paddedLength, marked, markBefore, unpad}
-use Rattle.field_padding.proofs.Lengths.{length-pad}
 use Rattle.field_ber_length.specs.Length.{lengthField, readLength, isShortest}
 use Rattle.field_expected.specs.Wanted.{rank, allowed}
 use Rattle.field_object.specs.Values.{rightSize, rightSecond, rightValue}
@@ -35,9 +32,9 @@ use Rattle.session_turn.specs.Turn.{isTurn}
 use Rattle.session_suite.specs.StoredKeys.{Keys, keysFit}
 use Rattle.session.specs.Opening.{openSuite, opening}
 use Rattle.session.specs.declared.Side.the-variants.{Host, Card}
-use Rattle.message_ciphers.specs.Ciphers.{Ciphers, Laws}
+use Rattle.message_ciphers.specs.Ciphers.{Ciphers}
 use Rattle.message_ciphers.specs.Aes.{dataIn}
-use Rattle.message_ciphers.proofs.PaddedData.{data-padded}
+use Rattle.message_protocol_examples.proofs.ToyCiphers.{toyHash, toyMac, xorAll, mask, toyEncrypt, toyDecrypt, toy, toy-laws}
 use Rattle.message_answer.specs.Message.{CommandHeader, StatusWord, Command, Response}
 use Rattle.message_permission.specs.Permission.{insPermitted, leNeed, dataNeed, commandPermitted, statusPermitted, commandWanted, responseWanted}
 use Rattle.message_counter.specs.Counter.{bigEndian, commandCounter, responseCounter}
@@ -47,60 +44,6 @@ use Rattle.message_protocol.specs.Command.{commandInput, wrapCommandChecks, unw
 use Rattle.message_protocol.specs.Response.{wrapResponseChecks, unwrapResponseChecks, responseMac, responseCiphertext, responseWrapped, responseAccepted, cardWraps, openResponse, hostUnwraps}
 use Rattle.message_protocol.specs.Transcript.{Call, wrapCommand, unwrapCommand, wrapResponse, unwrapResponse, close, Entry, messages, Transcript, lastMac, chaining, encrypted, wrapped, received, acceptedCommand, acceptedResponse, noted, entered, State, moved, does, step, run, start}
 use Rattle.message_protocol.specs.Agreement.{Agrees, chainingValues, MacBreak, Excepted, AllBytes}
-
--- ---- toy ciphers
-
-toyMac : Bytes → Bytes → Bytes
-toyMac k m = let h = foldr (λ x a. (a * 31 + x + 7) % 65521) 1 (k ++ m) in h % 256 ∷ h / 256 ∷ zeros 14
-
--- the padded data, each byte xored with the counter's last
-xorAll : ℕ → Bytes → Bytes
-xorAll b xs = map (λ x. x ⊕ b) xs
-
-toyEncrypt : Bytes → Bytes → Bytes → Bytes
-toyEncrypt k n d = if eqb (length d) 0 then [] else xorAll (getD n 15 0) (pad d)
-
-toyDecrypt : Bytes → Bytes → Bytes → Option Bytes
-toyDecrypt k n c = if eqb (length c) 0 then some [] else dataIn (xorAll (getD n 15 0) c) (unpad (xorAll (getD n 15 0) c))
-
-toy : Ciphers
-toy = record { mac = toyMac; encrypt = toyEncrypt; decrypt = toyDecrypt }
-
-no-data : (d : Bytes) → length d ≡ 0 → d ≡ []
-no-data [] e = refl
-no-data (b ∷ d) e = let z : ⊥ = omega (arith, e) in absurd z
-
-xor-undone : (b : ℕ) (xs : Bytes) → xorAll b (xorAll b xs) ≡ xs
-unfolding xorAll
-xor-undone b [] = refl
-xor-undone b (x ∷ xs) = ap₂ (λ (y : ℕ) (ys : Bytes). y ∷ ys) (xor-undo x b) (xor-undone b xs)
-
-length-xorAll : (b : ℕ) (xs : Bytes) → length (xorAll b xs) ≡ length xs
-unfolding xorAll
-length-xorAll b xs = length-map xs (λ x. x ⊕ b)
-
-toy-length : (n d : Bytes) → length (toyEncrypt [] n d) ≡ ciphertextLength (length d)
-unfolding toyEncrypt ciphertextLength
-toy-length n d = go (eqb (length d) 0)
-  where
-    go : (t : Bool) → length (if t then [] else xorAll (getD n 15 0) (pad d)) ≡ (if t then 0 else paddedLength (length d))
-    go true = refl
-    go false = length-xorAll (getD n 15 0) (pad d) ∙ length-pad d
-
-toy-undone : (n d : Bytes) → toyDecrypt [] n (toyEncrypt [] n d) ≡ some d
-unfolding toyEncrypt toyDecrypt paddedLength
-toy-undone n d = go (eqb (length d) 0) refl
-  where
-    go : (t : Bool) → eqb (length d) 0 ≡ t → toyDecrypt [] n (if t then [] else xorAll (getD n 15 0) (pad d)) ≡ some d
-    go true e = ap some (sym (no-data d (eqb-true (length d) 0 e)))
-    go false e =
-        let f : length d ≡ 0 → ⊥ = eqb-false (length d) 0 e in
-        let g : length (xorAll (getD n 15 0) (pad d)) ≡ 0 → ⊥ = λ z. omega (arith, length-pad d, length-xorAll (getD n 15 0) (pad d), z) in
-        rw (ne-eqb (length (xorAll (getD n 15 0) (pad d))) 0 g, xor-undone (getD n 15 0) (pad d)) (data-padded d (omega (arith, f)))
-
-toy-laws : Laws toy
-unfolding toy toyMac toyEncrypt toyDecrypt
-toy-laws = record { mac-length = λ k m key. refl; encrypt-length = λ k n d key c y. toy-length n d; decrypt-encrypt = λ k n d key c y. toy-undone n d }
 
 -- a MAC that is always zeros
 flat : Ciphers
@@ -142,6 +85,13 @@ exchange C st m r =
 
 two : Ciphers → List Call
 two C = let first = exchange C begin verify okay in first ++ exchange C (run C keys begin first) getData certificate
+
+-- with a response short enough to be written out
+one-byte : Response
+one-byte = record { header = record { sw1 = 0x90; sw2 = 0x00 }; payload = 0x07 ∷ [] }
+
+short : Ciphers → List Call
+short C = let first = exchange C begin verify one-byte in first ++ exchange C (run C keys begin first) getData one-byte
 
 counts : Transcript → List ℕ
 counts t =
@@ -195,7 +145,7 @@ sound C key sent input mac b m d =
 -- ---- runs with a MAC that is always zeros, one for each part of the claim
 
 forged : Command → Bytes
-forged m = commandField (toyEncrypt [] (commandCounter 1) (m .payload)) (m .header .le) (zeros 8)
+forged m = commandField (toyEncrypt (keys .enc) (commandCounter 1) (m .payload)) (m .header .le) (zeros 8)
 
 received-as : Command → Command → Call
 received-as m n = unwrapCommand Card (n .header .ins) (n .header .p1) (n .header .p2) (forged m) 3000
@@ -241,7 +191,7 @@ one-wrapped = wrapCommand Host verify 3000 ∷ []
 -- with the keys known, a command that was never wrapped: its MAC is right
 never-wrapped : List Call
 never-wrapped =
-    let c = toyEncrypt [] (commandCounter 1) (verify .payload) in
+    let c = toyEncrypt (keys .enc) (commandCounter 1) (verify .payload) in
     let full = toyMac (keys .mac) (commandInput (zeros 16) (verify .header) (commandObjects c false)) in
     unwrapCommand Card 0x20 0x00 0x98 (commandField c false (take 8 full)) 3000 ∷ []
 
@@ -286,7 +236,7 @@ are-bytes (b ∷ bs) e = let h = both (ltb b 256) (allBytes bs) e in bytes-cons 
 response-data-changed : List Call
 response-data-changed =
     wrapCommand Host check 3000 ∷ received-as check check ∷ wrapResponse Card okay 3000
-    ∷ unwrapResponse Host (okay .header) (responseField (toyEncrypt [] (responseCounter 1) (0x07 ∷ [])) 0x90 0x00 (zeros 8)) 3000 ∷ []
+    ∷ unwrapResponse Host (okay .header) (responseField (toyEncrypt (keys .enc) (responseCounter 1) (0x07 ∷ [])) 0x90 0x00 (zeros 8)) 3000 ∷ []
 
 -- transcripts that no run leads to
 entry : Entry CommandHeader
@@ -343,6 +293,17 @@ record Computed : Type 0 where
   counted : counts (run toy keys begin (two toy) .transcript) ≡ 2 ∷ 2 ∷ 2 ∷ 2 ∷ []
   commands-given : messages (run toy keys begin (two toy) .transcript .commandsAccepted) ≡ verify ∷ getData ∷ []
   responses-given : messages (run toy keys begin (two toy) .transcript .responsesAccepted) ≡ okay ∷ certificate ∷ []
+  -- two exchanges, every byte that is handed out: the keys, the counters, the chaining values and the order of the MAC input
+  command-fields : run toy keys begin (short toy) .transcript .commandFields
+      ≡ (0x87 ∷ 0x11 ∷ 0x01 ∷ 0xB5 ∷ 0xB6 ∷ 0xB2 ∷ 0x03 ∷ 0x83 ∷ 0x83 ∷ 0x83 ∷ 0x83 ∷ 0x83 ∷ 0x83 ∷ 0x83 ∷ 0x83 ∷ 0x83 ∷ 0x83 ∷ 0x83 ∷ 0x83 ∷ 0x8E
+      ∷ 0x08 ∷ 0x96 ∷ 0x9F ∷ 0xCF ∷ 0x4E ∷ 0xB5 ∷ 0xB4 ∷ 0x45 ∷ 0x52 ∷ [])
+      ∷ (0x87 ∷ 0x11 ∷ 0x01 ∷ 0xF0 ∷ 0xAF ∷ 0x2C ∷ 0xAC ∷ 0xAC ∷ 0xAC ∷ 0xAC ∷ 0xAC ∷ 0xAC ∷ 0xAC ∷ 0xAC ∷ 0xAC ∷ 0xAC ∷ 0xAC ∷ 0xAC ∷ 0xAC ∷ 0x97
+      ∷ 0x01 ∷ 0x00 ∷ 0x8E ∷ 0x08 ∷ 0x74 ∷ 0x0F ∷ 0x54 ∷ 0x94 ∷ 0x6B ∷ 0x0A ∷ 0x4E ∷ 0xD6 ∷ []) ∷ []
+  response-fields : run toy keys begin (short toy) .transcript .responseFields
+      ≡ (0x87 ∷ 0x11 ∷ 0x01 ∷ 0x51 ∷ 0xD6 ∷ 0x56 ∷ 0x56 ∷ 0x56 ∷ 0x56 ∷ 0x56 ∷ 0x56 ∷ 0x56 ∷ 0x56 ∷ 0x56 ∷ 0x56 ∷ 0x56 ∷ 0x56 ∷ 0x56 ∷ 0x56 ∷ 0x99
+      ∷ 0x02 ∷ 0x90 ∷ 0x00 ∷ 0x8E ∷ 0x08 ∷ 0x7B ∷ 0xD6 ∷ 0x22 ∷ 0x16 ∷ 0x22 ∷ 0x52 ∷ 0x76 ∷ 0xD6 ∷ [])
+      ∷ (0x87 ∷ 0x11 ∷ 0x01 ∷ 0x78 ∷ 0xFF ∷ 0x7F ∷ 0x7F ∷ 0x7F ∷ 0x7F ∷ 0x7F ∷ 0x7F ∷ 0x7F ∷ 0x7F ∷ 0x7F ∷ 0x7F ∷ 0x7F ∷ 0x7F ∷ 0x7F ∷ 0x7F ∷ 0x99
+      ∷ 0x02 ∷ 0x90 ∷ 0x00 ∷ 0x8E ∷ 0x08 ∷ 0xB2 ∷ 0xDF ∷ 0x48 ∷ 0x5C ∷ 0x98 ∷ 0xC0 ∷ 0xD4 ∷ 0x1D ∷ []) ∷ []
   not-excepted : Excepted toy keys begin (two toy) → ⊥
   -- a above w, r above s, and each part of a message
   a-above-w : Broken more-commands
@@ -373,12 +334,14 @@ record Computed : Type 0 where
   same-chaining-value : Excepted flat keys begin repeated
 
 computed : Computed
-unfolding toyMac xorAll toyEncrypt toyDecrypt toy keys verify getData okay certificate fieldOf begin exchange two counts same padding pad paddedLength marked markBefore unpad lengthField readLength isShortest rank allowed rightSize rightSecond rightValue need_else_⨾_ withLength readObject notedObject ended onObject walk readField object encryptedData leObject statusWord macObject commandObjects responseObjects commandField responseField ciphertextLength encryptedDataLength commandLength responseLength encodedHeader commandMacInput responseMacInput allZero keysEnd keysZero mcvsZero keepsPhase valid countsAsOpen isTurn keysFit openSuite opening dataIn insPermitted leNeed dataNeed commandPermitted statusPermitted commandWanted responseWanted bigEndian commandCounter responseCounter require_else_⨾_ _and-then_ afterRefusal concluded objectsOf textOf commandInput wrapCommandChecks unwrapCommandChecks commandMac commandCiphertext commandWrapped commandAccepted hostWraps openCommand cardUnwraps wrapResponseChecks unwrapResponseChecks responseMac responseCiphertext responseWrapped responseAccepted cardWraps openResponse hostUnwraps lastMac chaining encrypted wrapped received acceptedCommand acceptedResponse noted entered moved does step run flat among distinct chainingValues forged received-as other-header other-data authenticate with-le more-commands more-responses header-changed data-changed le-changed status-changed one-wrapped never-wrapped check repeated mac-changed response-again mixed allBytes response-data-changed entry reply two-outstanding answer-to-nothing field-lost response-field-lost dataOf p2Of sizeOf leOf sw1Of
+unfolding toyHash toyMac xorAll mask toyEncrypt toyDecrypt toy keys verify getData okay certificate fieldOf begin exchange two one-byte short counts same padding pad paddedLength marked markBefore unpad lengthField readLength isShortest rank allowed rightSize rightSecond rightValue need_else_⨾_ withLength readObject notedObject ended onObject walk readField object encryptedData leObject statusWord macObject commandObjects responseObjects commandField responseField ciphertextLength encryptedDataLength commandLength responseLength encodedHeader commandMacInput responseMacInput allZero keysEnd keysZero mcvsZero keepsPhase valid countsAsOpen isTurn keysFit openSuite opening dataIn insPermitted leNeed dataNeed commandPermitted statusPermitted commandWanted responseWanted bigEndian commandCounter responseCounter require_else_⨾_ _and-then_ afterRefusal concluded objectsOf textOf commandInput wrapCommandChecks unwrapCommandChecks commandMac commandCiphertext commandWrapped commandAccepted hostWraps openCommand cardUnwraps wrapResponseChecks unwrapResponseChecks responseMac responseCiphertext responseWrapped responseAccepted cardWraps openResponse hostUnwraps lastMac chaining encrypted wrapped received acceptedCommand acceptedResponse noted entered moved does step run flat among distinct chainingValues forged received-as other-header other-data authenticate with-le more-commands more-responses header-changed data-changed le-changed status-changed one-wrapped never-wrapped check repeated mac-changed response-again mixed allBytes response-data-changed entry reply two-outstanding answer-to-nothing field-lost response-field-lost dataOf p2Of sizeOf leOf sw1Of
 computed =
     record {
       counted = refl;
       commands-given = refl;
       responses-given = refl;
+      command-fields = refl;
+      response-fields = refl;
       not-excepted = never;
       a-above-w = λ v. let h = v .a≤w in omega (arith, h);
       r-above-s = λ v. let h = v .r≤s in omega (arith, h);

@@ -5,7 +5,7 @@ ghost use mathlib.Core.Path.{_≡_};
 ghost use Rattle.message_answer.specs.Answer.{afterRefusal, notGiven};
 ghost use Rattle.message_result.specs.Results.{wrapResult, commandResult, responseResult};
 
-// Of the tests of a call.
+// What the tests of a call answer.
 pub enum Checked {
     Passed,
     Refused(Refusal),
@@ -49,10 +49,10 @@ fn after_refusal(session: Session, refusal: Refusal) -> Session
     ensures { λ next. ⌜ next ≡ afterRefusal session refusal ⌝ }
 {
     let number = refusal.number();
-    if number == 9 {
+    if number == Refusal::BadMac.number() {
         return session.close();
     }
-    if number == 10 {
+    if number == Refusal::BadPadding.number() {
         return session.close();
     }
     session

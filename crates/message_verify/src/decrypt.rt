@@ -29,7 +29,7 @@ fn decrypt_start(size: KeySize, w: &[[u8; 4]; 60], iv: [u8; 16], text: &mut [u8]
     mode_cbc::decrypt(size, w, iv, &mut text[..n]);
 }
 
-// Of some whole blocks: the padded data, from index 0 of text on, and where the data ends.
+// Decrypts at least one whole block into text, and finds where the data ends.
 fn decrypt_some(
     suite: Suite,
     sk_enc: [u8; 32],
@@ -87,7 +87,7 @@ fn decrypt_by_memory(
     Unpadded::Data(n)
 }
 
-// Of the ciphertext that stands in a field from index `start` on.
+// Decrypts the ciphertext that stands in a field from index `start` on, and writes the data to the caller's buffer.
 pub fn decrypt_text(
     suite: Suite,
     sk_enc: [u8; 32],

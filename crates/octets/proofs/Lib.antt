@@ -6,3 +6,4 @@ pub mod ListsOfFour
 pub mod ByteStrings
 pub mod Writing
 pub mod Tests
+pub mod Chosen

@@ -58,9 +58,6 @@ pub closed-at-arrays : (side : Side) (suite : Suite) → Arrays (closedAt side s
 closed-at-arrays side suite =
     record { enc = zero-block 32; mac = zero-block 32; rmac = zero-block 32; command = zero-block 16; response = zero-block 16 }
 
-pub closed-arrays : (s : Session) → Arrays (closed s)
-closed-arrays s = closed-at-arrays (s .side) (s .suite)
-
 -- refused or not
 pub opening-arrays : (side : Side) (suite : ℕ) (k : Keys) → KeysOfBytes k → Arrays (opening side suite k .session)
 unfolding opening openSuite

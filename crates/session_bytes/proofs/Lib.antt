@@ -3,3 +3,4 @@ pub mod DecodeEncode
 pub mod EncodeDecode
 pub mod SavedExamples
 pub mod SavingExamples
+pub mod SavedReadBack

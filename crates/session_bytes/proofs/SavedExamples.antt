@@ -37,7 +37,11 @@ places : encode marked
 unfolding encode header keys mcvs marked
 places = refl
 
--- a host that waits for the response to its first command
+-- a host that was opened, and one that waits for the response to its first command
+fresh-host : header (fresh Host Cs2 (zeros 32) (zeros 32) (zeros 32)) ≡ 0x00 ∷ 0x88 ∷ 0x01 ∷ 0x00 ∷ 0x00 ∷ 0x02 ∷ zeros 4
+unfolding header
+fresh-host = refl
+
 first-command : header (commandTaken (fresh Host Cs2 (zeros 32) (zeros 32) (zeros 32)) (zeros 16))
     ≡ 0x00 ∷ 0x88 ∷ 0x01 ∷ 0x00 ∷ 0x01 ∷ 0x02 ∷ 0x00 ∷ 0x00 ∷ 0x00 ∷ 0x01 ∷ []
 unfolding header

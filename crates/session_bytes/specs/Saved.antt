@@ -21,6 +21,10 @@ use Rattle.session_rules.specs.Valid.{valid}
 use Rattle.session_bytes.specs.declared.Decoding.the-variants.{Decoded as Done, Refused}
 use Rattle.session_bytes.specs.declared.Decoded.{Decoded}
 
+-- the length of a saved session
+abbrev pub sessionSize : ℕ
+sessionSize = 138
+
 -- ---- writing
 
 abbrev pub sideNumber : Side → ℕ
@@ -52,7 +56,7 @@ encode s = header s ++ keys s ++ mcvs s
 -- 138 bytes: length of the rest 00 88, version 01, side 0 or 1, phase 0, 1 or 2
 unfoldable pub headed : Bytes → Bool
 headed b =
-    eqb (length b) 138 && eqb (getD b 0 0) 0x00 && eqb (getD b 1 0) 0x88 && eqb (getD b 2 0) 0x01
+    eqb (length b) sessionSize && eqb (getD b 0 0) 0x00 && eqb (getD b 1 0) 0x88 && eqb (getD b 2 0) 0x01
     && leb (getD b 3 0) 1 && leb (getD b 4 0) 2
 
 abbrev pub sideFrom : ℕ → Side

@@ -15,7 +15,7 @@ ghost use mathlib.Core.Path.{_≡_};
 ghost use Prim.Native.Nat.{_+_, _≤_};
 ghost use lib.ListN.{length, getD};
 ghost use Rattle.octets.specs.Write.{Wrote};
-ghost use Rattle.session_bytes.specs.Saved.{sideNumber, phaseNumber, header, keys, mcvs, encode, headed, unreadable, accepted, decodeSuite, decode};
+ghost use Rattle.session_bytes.specs.Saved.{sessionSize, sideNumber, phaseNumber, header, keys, mcvs, encode, headed, unreadable, accepted, decodeSuite, decode};
 ghost use Rattle.octets.specs.Bytes.{IsBytes};
 ghost use Rattle.session_suite.specs.Suites.{suiteOf};
 ghost use Rattle.session_bytes.specs.Saving.{encoding, encodedIn};
@@ -56,7 +56,7 @@ pub fn encode(session: Session, out: &mut [u8]) -> Encoding
 
 // Writes any session; the caller has the room.
 pub fn put_session(session: Session, out: &mut [u8]) -> usize
-    requires { ⌜ 138 ≤ length (now out) ⌝ }
+    requires { ⌜ sessionSize ≤ length (now out) ⌝ }
     ensures { λ next. ⌜ Wrote (now (out .entry)) 0 (encode session) next (now (out .exit)) ⌝ }
 {
     let k = put_header(session, out);
@@ -146,7 +146,7 @@ pub fn decode(bytes: &[u8]) -> Decoded
 }
 
 fn decode_suite(bytes: &[u8]) -> Decoded
-    requires { ⌜ length (now bytes) ≡ 138 ⌝ }
+    requires { ⌜ length (now bytes) ≡ sessionSize ⌝ }
     ensures { λ decoded. ⌜ decoded ≡ decodeSuite (now (bytes .entry)) (suiteOf (getD (now (bytes .entry)) 5 0)) ⌝ }
 {
     let known = suite_of(wide(bytes[5]));

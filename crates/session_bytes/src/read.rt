@@ -8,7 +8,7 @@ use session_suite::Suite;
 ghost use mathlib.Core.Path.{_≡_};
 ghost use Prim.Native.Nat.{_+_, _*_, _≤_};
 ghost use lib.ListN.{length};
-ghost use Rattle.session_bytes.specs.Saved.{sideFrom, phaseFrom, countFrom, part, sessionFrom};
+ghost use Rattle.session_bytes.specs.Saved.{sessionSize, sideFrom, phaseFrom, countFrom, part, sessionFrom};
 
 fn side_from(n: u8) -> Side
     ensures { λ side. ⌜ side ≡ sideFrom n ⌝ }
@@ -62,7 +62,7 @@ fn key_at(bytes: &[u8], at: usize) -> [u8; 32]
 }
 
 pub fn session_from(bytes: &[u8], suite: Suite) -> Session
-    requires { ⌜ length (now bytes) ≡ 138 ⌝ }
+    requires { ⌜ length (now bytes) ≡ sessionSize ⌝ }
     ensures { λ session. ⌜ session ≡ sessionFrom (now (bytes .entry)) suite ⌝ }
 {
     Session {

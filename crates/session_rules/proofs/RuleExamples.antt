@@ -99,6 +99,10 @@ closed-with-a-chaining-value : valid (session Closed 0 (zeros 16) some) ≡ fals
 unfolding valid keepsPhase keysZero mcvsZero allZero some
 closed-with-a-chaining-value = refl
 
+closed-with-a-command-chaining-value : valid (session Closed 0 some (zeros 16)) ≡ false
+unfolding valid keepsPhase keysZero mcvsZero allZero some
+closed-with-a-command-chaining-value = refl
+
 -- the rules are the card's too
 response-value-at-1-of-a-card : valid (sessionOf Card Pending 1 some some) ≡ false
 unfolding valid keepsPhase keysEnd allZero some
