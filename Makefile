@@ -22,7 +22,7 @@ export TMPDIR := $(shell t=/dev/shm/make.$$$$; { cp /bin/true $$t && $$t && test
 # The crates that export the calls of c/include/pivsm.h; those of c/include/primitives.h are in primitives.
 CALLS = $(patsubst crates/%/src/lib.rt,%,$(shell grep -l 'pub extern "C" fn' crates/capi_*/src/lib.rt))
 # Programs whose output stands in c/*/NAME.stdout; that of exchange_calls is exchange's.
-PRINTED = example exchange exchange_calls boundary_cases
+PRINTED = example exchange exchange_calls boundary_cases refusals_write_nothing
 DIFFERENTIAL = $(filter-out %/vectors.c,$(wildcard c/tests/differential/*.c)) c/tests/reference.c
 HEADERS = $(wildcard c/*/*.h c/tests/differential/*.h)
 CODE = crates.txt $(shell find crates -name '*.rt')
@@ -93,6 +93,9 @@ build/exchange_calls: c/tests/exchange_calls.c build/libpivsm.a
 
 build/boundary_cases: c/tests/boundary_cases.c c/tests/reference.c build/libpivsm.a
 	@$(C99) -o $@ $(filter-out %.h,$^) -lcrypto
+
+build/refusals_write_nothing: c/tests/refusals_write_nothing.c build/libpivsm.a
+	@$(C99) -o $@ $(filter-out %.h,$^)
 
 build/vectors: c/tests/differential/vectors.c c/tests/reference.c
 	@$(C99) -o $@ $(filter-out %.h,$^) -lcrypto

@@ -4,14 +4,13 @@ use capi_session::session_in;
 use session_bytes::Decoding;
 ghost use mathlib.Core.Path.{_≡_};
 ghost use Rattle.octets.specs.Bytes.{IsBytes};
-ghost use Rattle.capi_close.specs.CloseOn.{closeOn, closeValues};
+ghost use Rattle.capi_close.specs.Call.{given, left, pivsmClose};
 
-// Refusal 16.
+// Refusal 16. `bytes` is what the types say of the arguments; the demands use it.
 #[no_mangle]
 pub extern "C" fn pivsm_close(session: &mut [u8], len: &mut usize) -> u32
-    ensures number { λ number. ⌜ number ≡ closeValues (closeOn (now (session .entry)) (now (len .entry)) .answer) .number ⌝ }
-    ensures session { λ _. ⌜ now (session .exit) ≡ closeOn (now (session .entry)) (now (len .entry)) .session ⌝ }
-    ensures len { λ _. ⌜ now (len .exit) ≡ closeOn (now (session .entry)) (now (len .entry)) .len ⌝ }
+    ensures call { λ number. ⌜ left number (now (session .exit)) (now (len .exit))
+        ≡ pivsmClose (given (now (session .entry)) (now (len .entry))) ⌝ }
     ensures bytes { λ _. ⌜ IsBytes (now (session .entry)) ⌝ }
 {
     let decoded = session_in(session, *len);
@@ -20,7 +19,7 @@ pub extern "C" fn pivsm_close(session: &mut [u8], len: &mut usize) -> u32
     match read {
         Decoding::Decoded => {
             let next = held.close();
-            *len = replace_session(next, session);
+            replace_session(0, next, session, len);
             0
         }
         Decoding::Refused(refusal) => refusal.number(),

@@ -2,9 +2,7 @@
 use capi_values::fragment_values;
 use chain_fragment_command::fragment_command;
 ghost use mathlib.Core.Path.{_≡_};
-ghost use lib.ListN.{length};
-ghost use Rattle.message_answer.specs.Answer.{buffer};
-ghost use Rattle.capi_fragment_command.specs.FragmentOn.{fragmentOf, fragmentGives};
+ghost use Rattle.capi_fragment_command.specs.Call.{given, left, pivsmFragmentCommand};
 
 // Refusals 15, 4, 14 and 6.
 #[no_mangle]
@@ -18,9 +16,8 @@ pub extern "C" fn pivsm_fragment_command(
     apdu: &mut [u8],
     written: &mut usize,
 ) -> u32
-    ensures number { λ answer. ⌜ answer ≡ fragmentGives (fragmentOf ins p1 p2 (now (field .entry)) size number (length (now (apdu .entry)))) .number ⌝ }
-    ensures written { λ _. ⌜ now (written .exit) ≡ fragmentGives (fragmentOf ins p1 p2 (now (field .entry)) size number (length (now (apdu .entry)))) .len ⌝ }
-    ensures apdu { λ _. ⌜ now (apdu .exit) ≡ buffer (λ bytes. bytes) (now (apdu .entry)) (fragmentOf ins p1 p2 (now (field .entry)) size number (length (now (apdu .entry)))) ⌝ }
+    ensures { λ result. ⌜ left result (now (apdu .exit)) (now (written .exit))
+        ≡ pivsmFragmentCommand (given ins p1 p2 (now (field .entry)) size number (now (apdu .entry))) ⌝ }
 {
     let answer = fragment_command(ins, p1, p2, field, size, number, apdu);
     let values = fragment_values(answer);

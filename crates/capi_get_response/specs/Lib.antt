@@ -1,1 +1,1 @@
-pub mod GetResponse
+pub mod Call

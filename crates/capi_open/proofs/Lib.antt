@@ -1,1 +1,2 @@
-pub mod OpenedBytes
+pub mod Saved
+pub mod CallExamples

@@ -1,1 +1,1 @@
-pub mod OpenOn
+pub mod Call

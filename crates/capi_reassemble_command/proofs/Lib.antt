@@ -1,1 +1,2 @@
 pub mod ChainNumbers
+pub mod CallExamples

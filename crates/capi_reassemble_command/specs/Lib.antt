@@ -1,2 +1,2 @@
-pub mod ReassembleOn
 pub mod ChainNumbers
+pub mod Call

@@ -3,14 +3,13 @@ use capi_values::reassembly_values;
 use chain_command::CommandChain;
 use chain_reassemble_command::reassemble_command;
 ghost use mathlib.Core.Path.{_≡_};
-ghost use lib.ListN.{length};
 ghost use Prim.Native.Nat.{_≤_};
-ghost use Rattle.chain_command.specs.Reassembly.{reassemblyBuffer};
-ghost use Rattle.capi_values.specs.ChainingValues.{reassemblyValues};
+ghost use Rattle.message_answer.specs.Message.{maxCommandField};
 ghost use Rattle.capi_reassemble_command.specs.ChainNumbers.{chainNumber, chainOf};
-ghost use Rattle.capi_reassemble_command.specs.ReassembleOn.{reassembleOn};
+ghost use Rattle.octets.specs.Bytes.{IsBytes};
+ghost use Rattle.capi_reassemble_command.specs.Call.{given, left, pivsmReassembleCommand};
 
-// Refusals 7, 14, 4 and 6.
+// Refusals 7, 14, 4 and 6. `bytes` is what the types say of the arguments; the demands use it.
 #[no_mangle]
 pub extern "C" fn pivsm_reassemble_command(
     chain: &mut u64,
@@ -22,14 +21,10 @@ pub extern "C" fn pivsm_reassemble_command(
     p1: &mut u8,
     p2: &mut u8,
 ) -> u32
-    ensures number { λ number. ⌜ number ≡ reassemblyValues (reassembleOn (now (chain .entry)) (now (apdu .entry)) (length (now (field .entry))) .answer) .number ⌝ }
-    ensures written { λ _. ⌜ now (written .exit) ≡ reassemblyValues (reassembleOn (now (chain .entry)) (now (apdu .entry)) (length (now (field .entry))) .answer) .len ⌝ }
-    ensures sw { λ _. ⌜ now (sw .exit) ≡ reassemblyValues (reassembleOn (now (chain .entry)) (now (apdu .entry)) (length (now (field .entry))) .answer) .status ⌝ }
-    ensures ins { λ _. ⌜ now (ins .exit) ≡ reassemblyValues (reassembleOn (now (chain .entry)) (now (apdu .entry)) (length (now (field .entry))) .answer) .ins ⌝ }
-    ensures p1 { λ _. ⌜ now (p1 .exit) ≡ reassemblyValues (reassembleOn (now (chain .entry)) (now (apdu .entry)) (length (now (field .entry))) .answer) .p1 ⌝ }
-    ensures p2 { λ _. ⌜ now (p2 .exit) ≡ reassemblyValues (reassembleOn (now (chain .entry)) (now (apdu .entry)) (length (now (field .entry))) .answer) .p2 ⌝ }
-    ensures chain { λ _. ⌜ now (chain .exit) ≡ chainNumber (reassembleOn (now (chain .entry)) (now (apdu .entry)) (length (now (field .entry))) .chain) ⌝ }
-    ensures field { λ _. ⌜ now (field .exit) ≡ reassemblyBuffer (chainOf (now (chain .entry))) (now (apdu .entry)) (now (field .entry)) ⌝ }
+    ensures call { λ number. ⌜ left number (now (chain .exit)) (now (field .exit)) (now (written .exit))
+        (now (sw .exit)) (now (ins .exit)) (now (p1 .exit)) (now (p2 .exit))
+        ≡ pivsmReassembleCommand (given (now (chain .entry)) (now (apdu .entry)) (now (field .entry))) ⌝ }
+    ensures bytes { λ _. ⌜ IsBytes (now (apdu .entry)) ⌝ }
 {
     let held = chain_of(*chain);
     let result = reassemble_command(held, apdu, field);
@@ -65,7 +60,7 @@ fn wide(b: u8) -> u64
 
 // The number of a chain.
 fn chain_number(chain: CommandChain) -> u64
-    requires { ⌜ chain .len ≤ 2066 ⌝ }
+    requires { ⌜ chain .len ≤ maxCommandField ⌝ }
     ensures { λ n. ⌜ n ≡ chainNumber chain ⌝ }
 {
     let len = chain.len as u64;

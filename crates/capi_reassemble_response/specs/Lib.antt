@@ -1,1 +1,1 @@
-pub mod ReassembleOn
+pub mod Call

@@ -1,1 +1,2 @@
-pub mod OnSession
+pub mod Serving
+pub mod HandedOn

@@ -3,14 +3,11 @@ use capi_session::replace_session;
 use capi_session::session_in;
 use capi_values::command_values;
 use capi_values::refusal_values;
-use message_unwrap_command::unwrap_command;
+use message_unwrap_command::unwrap_command_with_valid_session;
 use session_bytes::Decoding;
 ghost use mathlib.Core.Path.{_≡_};
-ghost use lib.ListN.{length};
 ghost use Rattle.octets.specs.Bytes.{IsBytes};
-ghost use Rattle.message_answer.specs.Answer.{buffer};
-ghost use Rattle.message_unwrap_command.specs.UnwrapCommand.{payloadOf};
-ghost use Rattle.capi_unwrap_command.specs.UnwrapOn.{unwrapOn, unwrapGives};
+ghost use Rattle.capi_unwrap_command.specs.Call.{given, left, pivsmUnwrapCommand};
 
 // Refusals 16, 1, 2, 3, 4, 5, 7 or 8, 6, 9 and 10. `bytes` is what the types say of the arguments; the demands use it.
 #[no_mangle]
@@ -21,16 +18,14 @@ pub extern "C" fn pivsm_unwrap_command(
     p1: u8,
     p2: u8,
     field: &[u8],
-    data: &mut [u8],
+    payload: &mut [u8],
     written: &mut usize,
     le: &mut bool,
 ) -> u32
-    ensures number { λ number. ⌜ number ≡ unwrapGives (unwrapOn (now (session .entry)) (now (len .entry)) ins p1 p2 (now (field .entry)) (length (now («data» .entry)))) .number ⌝ }
-    ensures written { λ _. ⌜ now (written .exit) ≡ unwrapGives (unwrapOn (now (session .entry)) (now (len .entry)) ins p1 p2 (now (field .entry)) (length (now («data» .entry)))) .len ⌝ }
-    ensures le { λ _. ⌜ now (le .exit) ≡ unwrapGives (unwrapOn (now (session .entry)) (now (len .entry)) ins p1 p2 (now (field .entry)) (length (now («data» .entry)))) .le ⌝ }
-    ensures session { λ _. ⌜ now (session .exit) ≡ unwrapOn (now (session .entry)) (now (len .entry)) ins p1 p2 (now (field .entry)) (length (now («data» .entry))) .session ⌝ }
-    ensures len { λ _. ⌜ now (len .exit) ≡ unwrapOn (now (session .entry)) (now (len .entry)) ins p1 p2 (now (field .entry)) (length (now («data» .entry))) .len ⌝ }
-    ensures data { λ _. ⌜ now («data» .exit) ≡ buffer payloadOf (now («data» .entry)) (unwrapOn (now (session .entry)) (now (len .entry)) ins p1 p2 (now (field .entry)) (length (now («data» .entry))) .answer) ⌝ }
+    ensures call { λ number. ⌜ left number (now (session .exit)) (now (len .exit))
+        (now (payload .exit)) (now (written .exit)) (now (le .exit))
+        ≡ pivsmUnwrapCommand (given (now (session .entry)) (now (len .entry)) ins p1 p2
+        (now (field .entry)) (now (payload .entry))) ⌝ }
     ensures bytes { λ _. ⌜ IsBytes (now (session .entry)) ⌝ }
 {
     let decoded = session_in(session, *len);
@@ -38,11 +33,11 @@ pub extern "C" fn pivsm_unwrap_command(
     let held = decoded.session;
     match read {
         Decoding::Decoded => {
-            let result = unwrap_command(held, ins, p1, p2, field, data);
+            let result = unwrap_command_with_valid_session(held, ins, p1, p2, field, payload);
             let answer = result.answer;
             let next = result.session;
-            *len = replace_session(next, session);
             let values = command_values(answer);
+            replace_session(values.number, next, session, len);
             *written = values.len;
             *le = values.le;
             values.number

@@ -3,14 +3,11 @@ use capi_session::replace_session;
 use capi_session::session_in;
 use capi_values::refusal_values;
 use capi_values::response_values;
-use message_unwrap_response::unwrap_response;
+use message_unwrap_response::unwrap_response_with_valid_session;
 use session_bytes::Decoding;
 ghost use mathlib.Core.Path.{_≡_};
-ghost use lib.ListN.{length};
 ghost use Rattle.octets.specs.Bytes.{IsBytes};
-ghost use Rattle.message_answer.specs.Answer.{buffer};
-ghost use Rattle.message_unwrap_response.specs.UnwrapResponse.{payloadOf};
-ghost use Rattle.capi_unwrap_response.specs.UnwrapOn.{unwrapOn, unwrapGives};
+ghost use Rattle.capi_unwrap_response.specs.Call.{given, left, pivsmUnwrapResponse};
 
 // Refusals 16, 1, 2, 13, 4, 7 or 8, 6, 9 and 10. `bytes` is what the types say of the arguments; the demands use it.
 #[no_mangle]
@@ -19,16 +16,14 @@ pub extern "C" fn pivsm_unwrap_response(
     len: &mut usize,
     sw: u16,
     field: &[u8],
-    data: &mut [u8],
+    payload: &mut [u8],
     written: &mut usize,
     status: &mut u16,
 ) -> u32
-    ensures number { λ number. ⌜ number ≡ unwrapGives (unwrapOn (now (session .entry)) (now (len .entry)) sw (now (field .entry)) (length (now («data» .entry)))) .number ⌝ }
-    ensures written { λ _. ⌜ now (written .exit) ≡ unwrapGives (unwrapOn (now (session .entry)) (now (len .entry)) sw (now (field .entry)) (length (now («data» .entry)))) .len ⌝ }
-    ensures status { λ _. ⌜ now (status .exit) ≡ unwrapGives (unwrapOn (now (session .entry)) (now (len .entry)) sw (now (field .entry)) (length (now («data» .entry)))) .status ⌝ }
-    ensures session { λ _. ⌜ now (session .exit) ≡ unwrapOn (now (session .entry)) (now (len .entry)) sw (now (field .entry)) (length (now («data» .entry))) .session ⌝ }
-    ensures len { λ _. ⌜ now (len .exit) ≡ unwrapOn (now (session .entry)) (now (len .entry)) sw (now (field .entry)) (length (now («data» .entry))) .len ⌝ }
-    ensures data { λ _. ⌜ now («data» .exit) ≡ buffer payloadOf (now («data» .entry)) (unwrapOn (now (session .entry)) (now (len .entry)) sw (now (field .entry)) (length (now («data» .entry))) .answer) ⌝ }
+    ensures call { λ number. ⌜ left number (now (session .exit)) (now (len .exit))
+        (now (payload .exit)) (now (written .exit)) (now (status .exit))
+        ≡ pivsmUnwrapResponse (given (now (session .entry)) (now (len .entry)) sw
+        (now (field .entry)) (now (payload .entry))) ⌝ }
     ensures bytes { λ _. ⌜ IsBytes (now (session .entry)) ⌝ }
 {
     let sw1 = (sw / 256) as u8;
@@ -38,11 +33,11 @@ pub extern "C" fn pivsm_unwrap_response(
     let held = decoded.session;
     match read {
         Decoding::Decoded => {
-            let result = unwrap_response(held, sw1, sw2, field, data);
+            let result = unwrap_response_with_valid_session(held, sw1, sw2, field, payload);
             let answer = result.answer;
             let next = result.session;
-            *len = replace_session(next, session);
             let values = response_values(answer);
+            replace_session(values.number, next, session, len);
             *written = values.len;
             *status = values.status;
             values.number

@@ -1,2 +1,3 @@
 pub mod ValueExamples
 pub mod ChainingValueExamples
+pub mod Numbers

@@ -5,7 +5,7 @@ use Rattle.chain_command.specs.declared.FragmentAnswer.{FragmentAnswer}
 use Rattle.chain_command.specs.declared.FragmentAnswer.the-variants.{Fragment, Refused as NotFragmented}
 use Rattle.chain_command.specs.declared.ReassemblyAnswer.{ReassemblyAnswer}
 use Rattle.chain_command.specs.declared.ReassemblyAnswer.the-variants.{More, Whole, Refused as NotReassembled}
-use Rattle.chain_response.specs.Fragment.{moreSw1}
+use Rattle.message_answer.specs.Message.{moreSw1}
 use Rattle.chain_response.specs.declared.ResponseFragmentAnswer.{ResponseFragmentAnswer}
 use Rattle.chain_response.specs.declared.ResponseFragmentAnswer.the-variants.{Fragment as ResponseFragment, Refused as ResponseNotFragmented}
 use Rattle.chain_response.specs.declared.ResponseReassemblyAnswer.{ResponseReassemblyAnswer}

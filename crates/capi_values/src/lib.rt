@@ -3,6 +3,7 @@ use chain_command::FragmentAnswer;
 use chain_command::ReassemblyAnswer;
 use chain_response::ResponseFragmentAnswer;
 use chain_response::ResponseReassemblyAnswer;
+use message_answer::MORE_SW1;
 use message_result::CommandAnswer;
 use message_result::ResponseAnswer;
 use message_result::WrapAnswer;
@@ -141,7 +142,7 @@ pub fn response_reassembly_values(answer: ResponseReassemblyAnswer) -> Values
     ensures { λ values. ⌜ values ≡ responseReassemblyValues answer ⌝ }
 {
     match answer {
-        ResponseReassemblyAnswer::More(n, le) => given(0, n, status_word(0x61, le)),
+        ResponseReassemblyAnswer::More(n, le) => given(0, n, status_word(MORE_SW1, le)),
         ResponseReassemblyAnswer::Whole(n, sw1, sw2) => given(0, n, status_word(sw1, sw2)),
         ResponseReassemblyAnswer::Refused(refusal) => refusal_values(refusal),
     }

@@ -3,13 +3,11 @@ use capi_session::replace_session;
 use capi_session::session_in;
 use capi_values::refusal_values;
 use capi_values::wrap_values;
-use message_wrap_command::wrap_command;
+use message_wrap_command::wrap_command_with_valid_session;
 use session_bytes::Decoding;
 ghost use mathlib.Core.Path.{_≡_};
-ghost use lib.ListN.{length};
 ghost use Rattle.octets.specs.Bytes.{IsBytes};
-ghost use Rattle.message_answer.specs.Answer.{buffer};
-ghost use Rattle.capi_wrap_command.specs.WrapOn.{wrapOn, wrapGives};
+ghost use Rattle.capi_wrap_command.specs.Call.{given, left, pivsmWrapCommand};
 
 // Refusals 16, 1, 2, 3, 4, 5 and 6. `bytes` is what the types say of the arguments; the demands use it.
 #[no_mangle]
@@ -20,27 +18,26 @@ pub extern "C" fn pivsm_wrap_command(
     p1: u8,
     p2: u8,
     le: bool,
-    data: &[u8],
+    payload: &[u8],
     field: &mut [u8],
     written: &mut usize,
 ) -> u32
-    ensures number { λ number. ⌜ number ≡ wrapGives (wrapOn (now (session .entry)) (now (len .entry)) ins p1 p2 le (now («data» .entry)) (length (now (field .entry)))) .number ⌝ }
-    ensures written { λ _. ⌜ now (written .exit) ≡ wrapGives (wrapOn (now (session .entry)) (now (len .entry)) ins p1 p2 le (now («data» .entry)) (length (now (field .entry)))) .len ⌝ }
-    ensures session { λ _. ⌜ now (session .exit) ≡ wrapOn (now (session .entry)) (now (len .entry)) ins p1 p2 le (now («data» .entry)) (length (now (field .entry))) .session ⌝ }
-    ensures len { λ _. ⌜ now (len .exit) ≡ wrapOn (now (session .entry)) (now (len .entry)) ins p1 p2 le (now («data» .entry)) (length (now (field .entry))) .len ⌝ }
-    ensures field { λ _. ⌜ now (field .exit) ≡ buffer (λ bytes. bytes) (now (field .entry)) (wrapOn (now (session .entry)) (now (len .entry)) ins p1 p2 le (now («data» .entry)) (length (now (field .entry))) .answer) ⌝ }
-    ensures bytes { λ _. ⌜ IsBytes (now (session .entry)) × IsBytes (now («data» .entry)) ⌝ }
+    ensures call { λ number. ⌜ left number (now (session .exit)) (now (len .exit))
+        (now (field .exit)) (now (written .exit))
+        ≡ pivsmWrapCommand (given (now (session .entry)) (now (len .entry)) ins p1 p2 le
+        (now (payload .entry)) (now (field .entry))) ⌝ }
+    ensures bytes { λ _. ⌜ IsBytes (now (session .entry)) × IsBytes (now (payload .entry)) ⌝ }
 {
     let decoded = session_in(session, *len);
     let read = decoded.answer;
     let held = decoded.session;
     match read {
         Decoding::Decoded => {
-            let result = wrap_command(held, ins, p1, p2, le, data, field);
+            let result = wrap_command_with_valid_session(held, ins, p1, p2, le, payload, field);
             let answer = result.answer;
             let next = result.session;
-            *len = replace_session(next, session);
             let values = wrap_values(answer);
+            replace_session(values.number, next, session, len);
             *written = values.len;
             values.number
         }

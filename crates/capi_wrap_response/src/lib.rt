@@ -3,13 +3,11 @@ use capi_session::replace_session;
 use capi_session::session_in;
 use capi_values::refusal_values;
 use capi_values::wrap_values;
-use message_wrap_response::wrap_response;
+use message_wrap_response::wrap_response_with_valid_session;
 use session_bytes::Decoding;
 ghost use mathlib.Core.Path.{_≡_};
-ghost use lib.ListN.{length};
 ghost use Rattle.octets.specs.Bytes.{IsBytes};
-ghost use Rattle.message_answer.specs.Answer.{buffer};
-ghost use Rattle.capi_wrap_response.specs.WrapOn.{wrapOn, wrapGives};
+ghost use Rattle.capi_wrap_response.specs.Call.{given, left, pivsmWrapResponse};
 
 // Refusals 16, 1, 2, 3, 4 and 6. `bytes` is what the types say of the arguments; the demands use it.
 #[no_mangle]
@@ -17,16 +15,15 @@ pub extern "C" fn pivsm_wrap_response(
     session: &mut [u8],
     len: &mut usize,
     sw: u16,
-    data: &[u8],
+    payload: &[u8],
     field: &mut [u8],
     written: &mut usize,
 ) -> u32
-    ensures number { λ number. ⌜ number ≡ wrapGives (wrapOn (now (session .entry)) (now (len .entry)) sw (now («data» .entry)) (length (now (field .entry)))) .number ⌝ }
-    ensures written { λ _. ⌜ now (written .exit) ≡ wrapGives (wrapOn (now (session .entry)) (now (len .entry)) sw (now («data» .entry)) (length (now (field .entry)))) .len ⌝ }
-    ensures session { λ _. ⌜ now (session .exit) ≡ wrapOn (now (session .entry)) (now (len .entry)) sw (now («data» .entry)) (length (now (field .entry))) .session ⌝ }
-    ensures len { λ _. ⌜ now (len .exit) ≡ wrapOn (now (session .entry)) (now (len .entry)) sw (now («data» .entry)) (length (now (field .entry))) .len ⌝ }
-    ensures field { λ _. ⌜ now (field .exit) ≡ buffer (λ bytes. bytes) (now (field .entry)) (wrapOn (now (session .entry)) (now (len .entry)) sw (now («data» .entry)) (length (now (field .entry))) .answer) ⌝ }
-    ensures bytes { λ _. ⌜ IsBytes (now (session .entry)) × IsBytes (now («data» .entry)) ⌝ }
+    ensures call { λ number. ⌜ left number (now (session .exit)) (now (len .exit))
+        (now (field .exit)) (now (written .exit))
+        ≡ pivsmWrapResponse (given (now (session .entry)) (now (len .entry)) sw
+        (now (payload .entry)) (now (field .entry))) ⌝ }
+    ensures bytes { λ _. ⌜ IsBytes (now (session .entry)) × IsBytes (now (payload .entry)) ⌝ }
 {
     let sw1 = (sw / 256) as u8;
     let sw2 = (sw % 256) as u8;
@@ -35,11 +32,11 @@ pub extern "C" fn pivsm_wrap_response(
     let held = decoded.session;
     match read {
         Decoding::Decoded => {
-            let result = wrap_response(held, sw1, sw2, data, field);
+            let result = wrap_response_with_valid_session(held, sw1, sw2, payload, field);
             let answer = result.answer;
             let next = result.session;
-            *len = replace_session(next, session);
             let values = wrap_values(answer);
+            replace_session(values.number, next, session, len);
             *written = values.len;
             values.number
         }

@@ -2,6 +2,9 @@
 // the theorem that the fragments of a field give it back; no code.
 use refusal::Refusal;
 
+// The longest field that is wrapped, and so the longest that is fragmented.
+pub const LONGEST_FIELD: usize = 2066;
+
 // What fragmenting answers: the length of the APDU that stands in the caller's buffer, or a refusal.
 pub enum FragmentAnswer {
     Fragment(usize),

@@ -2,6 +2,7 @@
 use crate::part::apdu_length;
 use crate::part::fragment_count;
 use chain_command::FragmentAnswer;
+use chain_command::LONGEST_FIELD;
 use refusal::Refusal;
 ghost use mathlib.Core.Path.{_≡_};
 ghost use Rattle.chain_command.specs.Apdu.{Header};
@@ -10,8 +11,6 @@ ghost use Rattle.chain_command.specs.Fragment.{fragmentCommand, fragmentAnswer}
 // The most data of a fragment.
 const MAX_FRAGMENT: usize = 255;
 
-const MAX_COMMAND_FIELD: usize = 2066;
-
 // The first refusal, 15, 4, 14 or 6, or the length of the APDU, which a buffer of `room` bytes holds.
 pub fn fragment_checks(field: &[u8], size: usize, number: usize, room: usize) -> FragmentAnswer
     ensures { λ r. ⌜ ((h : Header) → r ≡ fragmentAnswer (fragmentCommand h (now (field .entry)) size number room)) ⌝ }
@@ -19,7 +18,7 @@ pub fn fragment_checks(field: &[u8], size: usize, number: usize, room: usize) ->
     if size > MAX_FRAGMENT {
         return FragmentAnswer::Refused(Refusal::FragmentTooLong);
     }
-    if field.len() > MAX_COMMAND_FIELD {
+    if field.len() > LONGEST_FIELD {
         return FragmentAnswer::Refused(Refusal::TooLong);
     }
     if number >= fragment_count(field.len(), size) {

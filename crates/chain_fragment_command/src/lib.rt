@@ -13,7 +13,7 @@ ghost use lib.ListN.{length};
 ghost use Rattle.octets.specs.Write.{Wrote};
 ghost use Rattle.message_answer.specs.Answer.{buffer};
 ghost use Rattle.chain_command.specs.Apdu.{header};
-ghost use Rattle.chain_command.specs.Fragment.{fragmentCount, fragment, fragmentCommand, fragmentAnswer};
+ghost use Rattle.chain_command.specs.Fragment.{longestField, fragmentCount, fragment, fragmentCommand, fragmentAnswer};
 
 // Of a fragment that passed its tests: the APDU, from index 0 on; the index behind it.
 fn put_fragment(
@@ -25,7 +25,7 @@ fn put_fragment(
     size: usize,
     number: usize,
 ) -> usize
-    requires { ⌜ (length (now field) ≤ 2066) × (size ≤ 255) × (number < fragmentCount (length (now field)) size) × (length (fragment (header ins p1 p2) (now field) size number) ≤ length (now out)) ⌝ }
+    requires { ⌜ (length (now field) ≤ longestField) × (size ≤ 255) × (number < fragmentCount (length (now field)) size) × (length (fragment (header ins p1 p2) (now field) size number) ≤ length (now out)) ⌝ }
     ensures { λ next. ⌜ Wrote (now (out .entry)) 0 (fragment (header ins p1 p2) (now (field .entry)) size number) next (now (out .exit)) ⌝ }
 {
     let part = fragment_part(field, size, number);

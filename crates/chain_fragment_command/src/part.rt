@@ -4,7 +4,7 @@ ghost use mathlib.Core.Path.{_≡_};
 ghost use Prim.Native.Nat.{_<_, _≤_};
 ghost use lib.ListN.{length};
 ghost use Rattle.chain_command.specs.Apdu.{Header};
-ghost use Rattle.chain_command.specs.Fragment.{fragmentSize, fragmentCount, fragment};
+ghost use Rattle.chain_command.specs.Fragment.{longestField, fragmentSize, fragmentCount, fragment};
 ghost use Rattle.chain_fragment_command.specs.FragmentPart.{fragmentPart};
 
 // How much size 0 asks for, which may be less than the most that a fragment holds.
@@ -28,7 +28,7 @@ fn fragment_size(size: usize) -> usize
 
 // How many fragments a field of n bytes has.
 pub fn fragment_count(n: usize, size: usize) -> usize
-    requires { ⌜ (n ≤ 2066) × (size ≤ 255) ⌝ }
+    requires { ⌜ (n ≤ longestField) × (size ≤ 255) ⌝ }
     ensures { λ count. ⌜ count ≡ fragmentCount n size ⌝ }
 {
     let most = fragment_size(size);
@@ -37,7 +37,7 @@ pub fn fragment_count(n: usize, size: usize) -> usize
 
 // The data of fragment `number`, from index `start` up to `end`, and whether it is the last. The number was tested before: the product could overflow.
 pub fn fragment_part(field: &[u8], size: usize, number: usize) -> Part
-    requires { ⌜ (length (now field) ≤ 2066) × (size ≤ 255) × (number < fragmentCount (length (now field)) size) ⌝ }
+    requires { ⌜ (length (now field) ≤ longestField) × (size ≤ 255) × (number < fragmentCount (length (now field)) size) ⌝ }
     ensures { λ part. ⌜ part ≡ fragmentPart (now (field .entry)) size number ⌝ }
 {
     let count = fragment_count(field.len(), size);
@@ -53,7 +53,7 @@ pub fn fragment_part(field: &[u8], size: usize, number: usize) -> Part
 
 // The length of a fragment's APDU; INS, P1 and P2 do not change it.
 pub fn apdu_length(field: &[u8], size: usize, number: usize) -> usize
-    requires { ⌜ (length (now field) ≤ 2066) × (size ≤ 255) × (number < fragmentCount (length (now field)) size) ⌝ }
+    requires { ⌜ (length (now field) ≤ longestField) × (size ≤ 255) × (number < fragmentCount (length (now field)) size) ⌝ }
     ensures { λ len. ⌜ ((h : Header) → len ≡ length (fragment h (now (field .entry)) size number)) ⌝ }
 {
     let part = fragment_part(field, size, number);

@@ -1,5 +1,6 @@
 // The tests of a response fragment before it is written, in their order (document 01, "The wire").
 use crate::part::next;
+use chain_response::LONGEST_FIELD;
 use chain_response::ResponseFragmentAnswer;
 use message_permission::status_permitted;
 use refusal::Refusal;
@@ -7,8 +8,6 @@ ghost use mathlib.Core.Path.{_≡_};
 ghost use Prim.Native.Nat.{_+_, _-_};
 ghost use Rattle.message_answer.specs.Message.{status};
 ghost use Rattle.chain_response.specs.Fragment.{next, fragmentResponse, fragmentAnswer};
-
-const MAX_RESPONSE_FIELD: usize = 16403;
 
 // The first refusal, 3, 4, 14 or 6, or the length of the fragment, which a buffer of `room` bytes holds, and the index behind its data.
 pub fn fragment_checks(
@@ -24,7 +23,7 @@ pub fn fragment_checks(
     if !status_permitted(sw1, sw2) {
         return ResponseFragmentAnswer::Refused(Refusal::NotPermitted);
     }
-    if field.len() > MAX_RESPONSE_FIELD {
+    if field.len() > LONGEST_FIELD {
         return ResponseFragmentAnswer::Refused(Refusal::TooLong);
     }
     if at >= field.len() {

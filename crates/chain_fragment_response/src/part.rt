@@ -1,5 +1,6 @@
 // The parts of a response field: how much is asked for, where a fragment's data ends, and the status word behind it (document 01, "The wire").
 use chain_parts::part_end;
+use message_answer::MORE_SW1;
 use octets::put_bytes;
 ghost use mathlib.Core.Path.{_≡_};
 ghost use Prim.Native.Nat.{_+_, _≤_};
@@ -7,9 +8,6 @@ ghost use lib.ListN.{length};
 ghost use Rattle.octets.specs.Write.{Wrote};
 ghost use Rattle.message_answer.specs.Message.{status};
 ghost use Rattle.chain_response.specs.Fragment.{asked, announced, fragmentStatus, next};
-
-// SW1 of "more bytes are available".
-const MORE_SW1: u8 = 0x61;
 
 fn asked(le: u8) -> usize
     ensures { λ most. ⌜ most ≡ asked le ⌝ }

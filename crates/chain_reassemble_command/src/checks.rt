@@ -2,15 +2,13 @@
 use crate::apdu::lc;
 use crate::apdu::well_formed;
 use chain_command::CommandChain;
+use message_answer::MAX_COMMAND_FIELD;
 use message_result::Checked;
 use refusal::Refusal;
 ghost use mathlib.Core.Path.{_≡_};
 ghost use Rattle.message_result.specs.Results.{checked};
 ghost use Rattle.chain_command.specs.Apdu.{header};
 ghost use Rattle.chain_command.specs.Reassembly.{possible, continues, reassemblyChecks};
-
-// The longest field that is read.
-const MAX_COMMAND_FIELD: usize = 2066;
 
 fn possible(chain: CommandChain) -> bool
     ensures { λ right. ⌜ right ≡ possible chain ⌝ }

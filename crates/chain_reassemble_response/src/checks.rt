@@ -1,5 +1,7 @@
 // The tests of a response fragment before it joins the chain, in document 01's order.
 use chain_response::ResponseChain;
+use message_answer::MAX_RESPONSE_FIELD;
+use message_answer::MORE_SW1;
 use message_result::Checked;
 use refusal::Refusal;
 ghost use mathlib.Core.Path.{_≡_};
@@ -10,15 +12,12 @@ ghost use lib.ListN.{length};
 ghost use Rattle.message_result.specs.Results.{checked};
 ghost use Rattle.chain_response.specs.Reassembly.{dataLength, isMore, wellFormed, possible, reassemblyChecks};
 
-// The longest field that is read.
-const MAX_RESPONSE_FIELD: usize = 16403;
-
 pub fn is_more(bytes: &[u8]) -> bool
     requires { ⌜ 2 ≤ length (now bytes) ⌝ }
     ensures { λ more. ⌜ more ≡ isMore (now (bytes .entry)) ⌝ }
 {
     let n = bytes.len() - 2;
-    bytes[n] == 0x61
+    bytes[n] == MORE_SW1
 }
 
 // More fragments follow only a fragment that has data.

@@ -12,7 +12,7 @@ use lib.ListN.{length, getD, take}
 use lib.Seq.{length-take-le, take-all, take-suc}
 use Rattle.octets.specs.Bytes.{Bytes}
 use Rattle.octets.proofs.Tests.{both}
-use Rattle.chain_response.specs.Fragment.{moreSw1}
+use Rattle.message_answer.specs.Message.{moreSw1}
 use Rattle.chain_response.specs.Reassembly.{dataLength, dataOf, statusOf, isMore, wellFormed}
 use Rattle.chain_response.specs.Chains.{ExactShapes, WrittenAreWellFormed}
 use Rattle.chain_response.proofs.WrittenFragment.{written-well-formed}

@@ -11,10 +11,9 @@ use lib.Dec.{leb}
 use Rattle.octets.specs.Bytes.{Bytes}
 use Rattle.octets.specs.Choice.{if_then_else_}
 use Rattle.refusal.specs.declared.Refusal.the-variants.{TooLong, BufferTooSmall, Malformed, BrokenChain}
-use Rattle.message_answer.specs.Message.{StatusWord, maxResponseField}
+use Rattle.message_answer.specs.Message.{StatusWord, maxResponseField, moreSw1}
 use Rattle.message_answer.specs.Answer.{Answer, refused, gave, require_else_⨾_}
 use Rattle.message_answer.proofs.Required.{require-gave}
-use Rattle.chain_response.specs.Fragment.{moreSw1}
 use Rattle.chain_response.specs.Reassembly.{statusOf, isMore, wellFormed, chain, possible, total, reassemblyChecks, taken, concluded, reassembleResponse}
 use Rattle.chain_response.specs.Chains.{Reached, none, more, ReachedArePossible, PossibleAreReached, OthersAreRefused}
 use Rattle.chain_response.specs.declared.ResponseChain.{ResponseChain}

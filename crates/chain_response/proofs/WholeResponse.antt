@@ -16,11 +16,11 @@ use Rattle.octets.specs.Write.{over, put}
 use Rattle.octets.proofs.ByteStrings.{by-test}
 use Rattle.octets.proofs.Tabulate.{tabulate-ext}
 use Rattle.octets.proofs.Writing.{over-nil, length-over, put-over}
-use Rattle.message_answer.specs.Message.{StatusWord, status, maxResponseField}
+use Rattle.message_answer.specs.Message.{StatusWord, status, maxResponseField, moreSw1}
 use Rattle.message_permission.specs.Permission.{statusPermitted}
 use Rattle.chain_parts.specs.Parts.{ceiling}
 use Rattle.chain_parts.proofs.Ceiling.{starts-within, below-ceiling, ends-with-last}
-use Rattle.chain_response.specs.Fragment.{longestField, moreSw1, asked, announced, fragmentData, fragmentStatus, next, fragment}
+use Rattle.chain_response.specs.Fragment.{longestField, asked, announced, fragmentData, fragmentStatus, next, fragment}
 use Rattle.chain_response.specs.Reassembly.{empty, chain, possible, taken, reassembleResponse, reassemblyBuffer, getResponse}
 use Rattle.chain_response.specs.Chains.{Reassembled, leAfter, requests, answersTo, Reassembles}
 use Rattle.chain_response.specs.declared.ResponseChain.{ResponseChain}

@@ -8,10 +8,10 @@ use Rattle.octets.specs.Bytes.{Bytes, tabulate}
 use Rattle.octets.specs.Choice.{if_then_else_}
 use Rattle.octets.specs.Write.{over}
 use Rattle.refusal.specs.declared.Refusal.the-variants.{Malformed, BrokenChain}
-use Rattle.message_answer.specs.Message.{StatusWord}
+use Rattle.message_answer.specs.Message.{StatusWord, moreSw1}
 use Rattle.message_permission.specs.Permission.{statusPermitted}
 use Rattle.chain_parts.specs.Parts.{ceiling}
-use Rattle.chain_response.specs.Fragment.{longestField, moreSw1, announced, next, fragment}
+use Rattle.chain_response.specs.Fragment.{longestField, announced, next, fragment}
 use Rattle.chain_response.specs.Reassembly.{dataOf, statusOf, wellFormed, empty, getResponse, possible, reassembleResponse, reassemblyBuffer}
 use Rattle.chain_response.specs.declared.ResponseChain.{ResponseChain}
 use Rattle.chain_response.specs.declared.ResponseReassemblyAnswer.{ResponseReassemblyAnswer}

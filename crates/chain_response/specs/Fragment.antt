@@ -7,7 +7,7 @@ use lib.ListN.{length, take, drop}
 use Rattle.octets.specs.Bytes.{Bytes}
 use Rattle.octets.specs.Choice.{if_then_else_}
 use Rattle.refusal.specs.declared.Refusal.the-variants.{NotPermitted, TooLong, BufferTooSmall, BrokenChain}
-use Rattle.message_answer.specs.Message.{StatusWord}
+use Rattle.message_answer.specs.Message.{StatusWord, moreSw1}
 use Rattle.message_permission.specs.Permission.{statusPermitted}
 use Rattle.message_answer.specs.Answer.{Answer, refused, gave, require_else_⨾_}
 use Rattle.chain_response.specs.declared.ResponseFragmentAnswer.{ResponseFragmentAnswer}
@@ -16,10 +16,6 @@ use Rattle.chain_response.specs.declared.ResponseFragmentAnswer.the-vari
 -- the longest field that is wrapped; how long a field may be that is read is another limit
 abbrev pub longestField : ℕ
 longestField = 16403
-
--- SW1 of "more bytes are available"
-abbrev pub moreSw1 : ℕ
-moreSw1 = 0x61
 
 -- how many bytes Le asks for
 unfoldable pub asked : ℕ → ℕ

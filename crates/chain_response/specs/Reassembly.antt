@@ -9,9 +9,8 @@ use Rattle.octets.specs.Bytes.{Bytes}
 use Rattle.octets.specs.Choice.{if_then_else_}
 use Rattle.octets.specs.Write.{put}
 use Rattle.refusal.specs.declared.Refusal.the-variants.{TooLong, BufferTooSmall, Malformed, BrokenChain}
-use Rattle.message_answer.specs.Message.{StatusWord, status, maxResponseField}
+use Rattle.message_answer.specs.Message.{StatusWord, status, maxResponseField, moreSw1}
 use Rattle.message_answer.specs.Answer.{Answer, refused, gave, require_else_⨾_}
-use Rattle.chain_response.specs.Fragment.{moreSw1}
 use Rattle.chain_response.specs.declared.ResponseChain.{ResponseChain}
 use Rattle.chain_response.specs.declared.ResponseReassemblyAnswer.the-variants.{More, Whole, Refused}
 use Rattle.chain_response.specs.declared.ResponseReassembly.{ResponseReassembly}

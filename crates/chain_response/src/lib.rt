@@ -2,6 +2,9 @@
 // definitions and the theorem that the fragments asked for give the field back; no code.
 use refusal::Refusal;
 
+// The longest field that is wrapped, and so the longest that is fragmented.
+pub const LONGEST_FIELD: usize = 16403;
+
 // What fragmenting answers.
 pub enum ResponseFragmentAnswer {
     // The length of the fragment that stands in the caller's buffer, its status word included, and the index of the field where the next one starts.

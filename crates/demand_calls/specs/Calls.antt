@@ -1,11 +1,7 @@
--- Calls that ran. Each is a function's arguments, its result and what its references hold at exit, of which the function's contract holds
--- (`Learnt`, which Rattle generates from the contract and proves of the code). Assumes nothing.
+-- The calls that ran, of the functions that open, wrap, unwrap and close.
 use mathlib.Core.List.{[]}
 use lib.ListN.{length, take}
-use contract.Lifetimes.{Lfts}
 use denote.Ref.{now}
-use denote.Triple.Clauses.{AtExit}
-use borrow.Fn.Kinds.{Dens, endedOf}
 use Rattle.session.proofs.Session.open_host.Reads as open-host
 use Rattle.session.proofs.Session.open_host.Kinds as open-host-kinds
 use Rattle.session.proofs.Session.open_card.Reads as open-card
@@ -20,6 +16,7 @@ use Rattle.message_wrap_response.proofs.wrap_response.Reads as wrap-response
 use Rattle.message_wrap_response.proofs.wrap_response.Kinds as wrap-response-kinds
 use Rattle.message_unwrap_response.proofs.unwrap_response.Reads as unwrap-response
 use Rattle.message_unwrap_response.proofs.unwrap_response.Kinds as unwrap-response-kinds
+use Rattle.demand_calls.specs.Ran.{Ran}
 use Rattle.octets.specs.Bytes.{Bytes}
 use Rattle.session_suite.specs.StoredKeys.{Keys, keys}
 use Rattle.session.specs.declared.Side.{Side}
@@ -43,23 +40,15 @@ use Rattle.message_result.specs.declared.ResponseResult.{ResponseResult}
 -- ---- openings
 
 -- Session::open_host(suite, sk_enc, sk_mac, sk_rmac)
-pub record OpensHost : Type 0 where
-  pub κs : Lfts 3
-  pub args : Dens κs open-host-kinds.ps
-  pub result : Opened
-  pub exit : AtExit (endedOf 3 open-host-kinds.ps open-host-kinds.r) κs
-  pub met : open-host.Learnt κs args result exit
+abbrev pub OpensHost : Type 0
+OpensHost = Ran 3 open-host-kinds.ps open-host-kinds.r Opened open-host.Learnt
 
 abbrev pub hostKeys : OpensHost → Keys
 hostKeys o = keys (now (o .args .1 .0)) (now (o .args .1 .1 .0)) (now (o .args .1 .1 .1 .0))
 
 -- Session::open_card(suite, sk_enc, sk_mac, sk_rmac)
-pub record OpensCard : Type 0 where
-  pub κs : Lfts 3
-  pub args : Dens κs open-card-kinds.ps
-  pub result : Opened
-  pub exit : AtExit (endedOf 3 open-card-kinds.ps open-card-kinds.r) κs
-  pub met : open-card.Learnt κs args result exit
+abbrev pub OpensCard : Type 0
+OpensCard = Ran 3 open-card-kinds.ps open-card-kinds.r Opened open-card.Learnt
 
 abbrev pub cardKeys : OpensCard → Keys
 cardKeys o = keys (now (o .args .1 .0)) (now (o .args .1 .1 .0)) (now (o .args .1 .1 .1 .0))
@@ -67,44 +56,24 @@ cardKeys o = keys (now (o .args .1 .0)) (now (o .args .1 .1 .0)) (now (o .args .
 -- ---- the five calls
 
 -- wrap_command(session, ins, p1, p2, le, data, out)
-pub record WrapsCommand : Type 0 where
-  pub κs : Lfts 2
-  pub args : Dens κs wrap-command-kinds.ps
-  pub result : WrapResult
-  pub exit : AtExit (endedOf 2 wrap-command-kinds.ps wrap-command-kinds.r) κs
-  pub met : wrap-command.Learnt κs args result exit
+abbrev pub WrapsCommand : Type 0
+WrapsCommand = Ran 2 wrap-command-kinds.ps wrap-command-kinds.r WrapResult wrap-command.Learnt
 
 -- unwrap_command(session, ins, p1, p2, field, out)
-pub record UnwrapsCommand : Type 0 where
-  pub κs : Lfts 2
-  pub args : Dens κs unwrap-command-kinds.ps
-  pub result : CommandResult
-  pub exit : AtExit (endedOf 2 unwrap-command-kinds.ps unwrap-command-kinds.r) κs
-  pub met : unwrap-command.Learnt κs args result exit
+abbrev pub UnwrapsCommand : Type 0
+UnwrapsCommand = Ran 2 unwrap-command-kinds.ps unwrap-command-kinds.r CommandResult unwrap-command.Learnt
 
 -- wrap_response(session, sw1, sw2, data, out)
-pub record WrapsResponse : Type 0 where
-  pub κs : Lfts 2
-  pub args : Dens κs wrap-response-kinds.ps
-  pub result : WrapResult
-  pub exit : AtExit (endedOf 2 wrap-response-kinds.ps wrap-response-kinds.r) κs
-  pub met : wrap-response.Learnt κs args result exit
+abbrev pub WrapsResponse : Type 0
+WrapsResponse = Ran 2 wrap-response-kinds.ps wrap-response-kinds.r WrapResult wrap-response.Learnt
 
 -- unwrap_response(session, sw1, sw2, field, out)
-pub record UnwrapsResponse : Type 0 where
-  pub κs : Lfts 2
-  pub args : Dens κs unwrap-response-kinds.ps
-  pub result : ResponseResult
-  pub exit : AtExit (endedOf 2 unwrap-response-kinds.ps unwrap-response-kinds.r) κs
-  pub met : unwrap-response.Learnt κs args result exit
+abbrev pub UnwrapsResponse : Type 0
+UnwrapsResponse = Ran 2 unwrap-response-kinds.ps unwrap-response-kinds.r ResponseResult unwrap-response.Learnt
 
 -- session.close()
-pub record Closes : Type 0 where
-  pub κs : Lfts 0
-  pub args : Dens κs close-session-kinds.ps
-  pub result : Session
-  pub exit : AtExit (endedOf 0 close-session-kinds.ps close-session-kinds.r) κs
-  pub met : close-session.Learnt κs args result exit
+abbrev pub Closes : Type 0
+Closes = Ran 0 close-session-kinds.ps close-session-kinds.r Session close-session.Learnt
 
 -- a call, and the end that made it
 pub data Event : Type 0 where

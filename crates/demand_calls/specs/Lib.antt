@@ -1,3 +1,4 @@
+pub mod Ran
 pub mod Calls
 pub mod RefusalKeeps
 pub mod HonestDelivery

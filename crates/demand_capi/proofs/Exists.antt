@@ -1,105 +1,127 @@
--- Every call with arguments of its types is an event: what the definition says, and the buffers and numbers that it leaves, meet the generated
--- contract. So the demands are about something, whatever the arguments. Assumes nothing.
-use mathlib.Core.Path.{refl}
-use lib.ListN.{length}
-use contract.Lifetimes.{Lfts}
-use denote.Ref.{now, at-last}
-use borrow.Fn.Kinds.{Dens}
+-- For all arguments of a call there is a call that ran with these arguments: what the definition of its name gives meets the generated contract. So the
+-- demands are about something, whatever the arguments; and each argument stands in the place of its name.
+use mathlib.Core.Path.{_≡_, refl}
+use mathlib.Core.Bool.{Bool, false}
+use mathlib.Core.List.{[]}
+use Prim.Native.Nat.{ℕ}
+use denote.Ref.{RefT}
 use Rattle.octets.specs.Bytes.{Bytes, IsBytes}
 use Rattle.session_suite.specs.StoredKeys.{KeysOfBytes, keys}
-use Rattle.session.specs.declared.Side.the-variants.{Host, Card}
-use Rattle.message_answer.specs.Message.{Response, CommandGiven}
-use Rattle.message_answer.specs.Answer.{buffer}
-use Rattle.capi_open.proofs.pivsm_open_host.Kinds as open-host-kinds
-use Rattle.capi_open.proofs.pivsm_open_card.Kinds as open-card-kinds
-use Rattle.capi_close.proofs.pivsm_close.Kinds as close-kinds
-use Rattle.capi_wrap_command.proofs.pivsm_wrap_command.Kinds as wrap-command-kinds
-use Rattle.capi_unwrap_command.proofs.pivsm_unwrap_command.Kinds as unwrap-command-kinds
-use Rattle.capi_wrap_response.proofs.pivsm_wrap_response.Kinds as wrap-response-kinds
-use Rattle.capi_unwrap_response.proofs.pivsm_unwrap_response.Kinds as unwrap-response-kinds
-use Rattle.capi_open.specs.OpenOn.{openOn, openGives}
-use Rattle.capi_close.specs.CloseOn.{closeOn, closeValues}
-use Rattle.capi_wrap_command.specs.WrapOn.{wrapOn as wrapCommandOn, wrapGives as wrapCommandGives}
-use Rattle.capi_unwrap_command.specs.UnwrapOn.{unwrapOn as unwrapCommandOn, unwrapGives as unwrapCommandGives}
-use Rattle.capi_wrap_response.specs.WrapOn.{wrapOn as wrapResponseOn, wrapGives as wrapResponseGives}
-use Rattle.capi_unwrap_response.specs.UnwrapOn.{unwrapOn as unwrapResponseOn, unwrapGives as unwrapResponseGives}
-use Rattle.demand_capi.specs.Calls.{OpensHost, OpensCard, Closes, WrapsCommand, UnwrapsCommand, WrapsResponse, UnwrapsResponse}
+use Rattle.capi_open.specs.Call as Open
+use Rattle.capi_close.specs.Call as Close
+use Rattle.capi_wrap_command.specs.Call as WrapCommand
+use Rattle.capi_unwrap_command.specs.Call as UnwrapCommand
+use Rattle.capi_wrap_response.specs.Call as WrapResponse
+use Rattle.capi_unwrap_response.specs.Call as UnwrapResponse
+use Rattle.demand_capi.specs.Calls.{OpensHost, openHostGiven, OpensCard, openCardGiven, Closes, closeGiven, WrapsCommand, wrapCommandGiven, UnwrapsCommand, unwrapCommandGiven, WrapsResponse, wrapResponseGiven, UnwrapsResponse, unwrapResponseGiven}
 
-pub opens-host-runs : (κs : Lfts 5) (args : Dens κs open-host-kinds.ps) → KeysOfBytes (keys (now (args .1 .0)) (now (args .1 .1 .0)) (now (args .1 .1 .1 .0))) → OpensHost
-opens-host-runs κs args b =
-    let held = args .1 .1 .1 .1 .0 in
-    let a = openOn Host (args .0) (keys (now (args .1 .0)) (now (args .1 .1 .0)) (now (args .1 .1 .1 .0))) (length (now held)) in
-    record {
-      κs = κs;
-      args = args;
-      number = openGives a .number;
-      exit = (args .0, (args .1 .0, (args .1 .1 .0, (args .1 .1 .1 .0, (at-last held (buffer (λ (bytes : Bytes). bytes) (now held) a), (at-last (args .1 .1 .1 .1 .1 .0) (openGives a .len), tt))))));
-      met = (refl, (refl, (refl, b)));
-    }
+-- a reference to a value; where it points makes no difference
+abbrev to : {X : Type 0} → X → RefT X
+to x = record { ptr = (0, 0); name = 0; now = x }
 
-pub opens-card-runs : (κs : Lfts 5) (args : Dens κs open-card-kinds.ps) → KeysOfBytes (keys (now (args .1 .0)) (now (args .1 .1 .0)) (now (args .1 .1 .1 .0))) → OpensCard
-opens-card-runs κs args b =
-    let held = args .1 .1 .1 .1 .0 in
-    let a = openOn Card (args .0) (keys (now (args .1 .0)) (now (args .1 .1 .0)) (now (args .1 .1 .1 .0))) (length (now held)) in
-    record {
-      κs = κs;
-      args = args;
-      number = openGives a .number;
-      exit = (args .0, (args .1 .0, (args .1 .1 .0, (args .1 .1 .1 .0, (at-last held (buffer (λ (bytes : Bytes). bytes) (now held) a), (at-last (args .1 .1 .1 .1 .1 .0) (openGives a .len), tt))))));
-      met = (refl, (refl, (refl, b)));
-    }
+module _ (suite : ℕ) (enc mac rmac session : Bytes) (len : ℕ) (b : KeysOfBytes (keys enc mac rmac)) where
+  abbrev given-opening : Open.Given
+  given-opening = Open.given suite enc mac rmac session
 
-pub closes-runs : (κs : Lfts 2) (args : Dens κs close-kinds.ps) → IsBytes (now (args .0)) → Closes
-closes-runs κs args b =
-    let x = closeOn (now (args .0)) (now (args .1 .0)) in
-    record {
-      κs = κs;
-      args = args;
-      number = closeValues (x .answer) .number;
-      exit = (at-last (args .0) (x .session), (at-last (args .1 .0) (x .len), tt));
-      met = (refl, (refl, (refl, b)));
-    }
+  abbrev pub opens-host : OpensHost
+  opens-host =
+      let l = Open.pivsmOpenHost given-opening in
+      record {
+        κs = ([], ([], ([], ([], ([], tt)))));
+        args = (suite, (to enc, (to mac, (to rmac, (to session, (to len, tt))))));
+        result = l .number;
+        exit = (suite, (to enc, (to mac, (to rmac, (to (l .session), (to (l .len), tt))))));
+        met = (refl, b);
+      }
 
-pub wraps-command-runs : (κs : Lfts 5) (args : Dens κs wrap-command-kinds.ps) → IsBytes (now (args .0)) → IsBytes (now (args .1 .1 .1 .1 .1 .1 .0)) → WrapsCommand
-wraps-command-runs κs args b d =
-    let x = wrapCommandOn (now (args .0)) (now (args .1 .0)) (args .1 .1 .0) (args .1 .1 .1 .0) (args .1 .1 .1 .1 .0) (args .1 .1 .1 .1 .1 .0) (now (args .1 .1 .1 .1 .1 .1 .0)) (length (now (args .1 .1 .1 .1 .1 .1 .1 .0))) in
-    record {
-      κs = κs;
-      args = args;
-      number = wrapCommandGives x .number;
-      exit = (at-last (args .0) (x .session), (at-last (args .1 .0) (x .len), (args .1 .1 .0, (args .1 .1 .1 .0, (args .1 .1 .1 .1 .0, (args .1 .1 .1 .1 .1 .0, (args .1 .1 .1 .1 .1 .1 .0, (at-last (args .1 .1 .1 .1 .1 .1 .1 .0) (buffer (λ (bytes : Bytes). bytes) (now (args .1 .1 .1 .1 .1 .1 .1 .0)) (x .answer)), (at-last (args .1 .1 .1 .1 .1 .1 .1 .1 .0) (wrapCommandGives x .len), tt)))))))));
-      met = (refl, (refl, (refl, (refl, (refl, (b, d))))));
-    }
+  abbrev pub opens-card : OpensCard
+  opens-card =
+      let l = Open.pivsmOpenCard given-opening in
+      record {
+        κs = ([], ([], ([], ([], ([], tt)))));
+        args = (suite, (to enc, (to mac, (to rmac, (to session, (to len, tt))))));
+        result = l .number;
+        exit = (suite, (to enc, (to mac, (to rmac, (to (l .session), (to (l .len), tt))))));
+        met = (refl, b);
+      }
 
-pub unwraps-command-runs : (κs : Lfts 6) (args : Dens κs unwrap-command-kinds.ps) → IsBytes (now (args .0)) → UnwrapsCommand
-unwraps-command-runs κs args b =
-    let x = unwrapCommandOn (now (args .0)) (now (args .1 .0)) (args .1 .1 .0) (args .1 .1 .1 .0) (args .1 .1 .1 .1 .0) (now (args .1 .1 .1 .1 .1 .0)) (length (now (args .1 .1 .1 .1 .1 .1 .0))) in
-    record {
-      κs = κs;
-      args = args;
-      number = unwrapCommandGives x .number;
-      exit = (at-last (args .0) (x .session), (at-last (args .1 .0) (x .len), (args .1 .1 .0, (args .1 .1 .1 .0, (args .1 .1 .1 .1 .0, (args .1 .1 .1 .1 .1 .0, (at-last (args .1 .1 .1 .1 .1 .1 .0) (buffer (λ (g : CommandGiven). g .payload) (now (args .1 .1 .1 .1 .1 .1 .0)) (x .answer)), (at-last (args .1 .1 .1 .1 .1 .1 .1 .0) (unwrapCommandGives x .len), (at-last (args .1 .1 .1 .1 .1 .1 .1 .1 .0) (unwrapCommandGives x .le), tt)))))))));
-      met = (refl, (refl, (refl, (refl, (refl, (refl, b))))));
-    }
+  pub opens-host-given : openHostGiven opens-host ≡ given-opening
+  opens-host-given = refl
 
-pub wraps-response-runs : (κs : Lfts 5) (args : Dens κs wrap-response-kinds.ps) → IsBytes (now (args .0)) → IsBytes (now (args .1 .1 .1 .0)) → WrapsResponse
-wraps-response-runs κs args b d =
-    let x = wrapResponseOn (now (args .0)) (now (args .1 .0)) (args .1 .1 .0) (now (args .1 .1 .1 .0)) (length (now (args .1 .1 .1 .1 .0))) in
-    record {
-      κs = κs;
-      args = args;
-      number = wrapResponseGives x .number;
-      exit = (at-last (args .0) (x .session), (at-last (args .1 .0) (x .len), (args .1 .1 .0, (args .1 .1 .1 .0, (at-last (args .1 .1 .1 .1 .0) (buffer (λ (bytes : Bytes). bytes) (now (args .1 .1 .1 .1 .0)) (x .answer)), (at-last (args .1 .1 .1 .1 .1 .0) (wrapResponseGives x .len), tt))))));
-      met = (refl, (refl, (refl, (refl, (refl, (b, d))))));
-    }
+  pub opens-card-given : openCardGiven opens-card ≡ given-opening
+  opens-card-given = refl
 
-pub unwraps-response-runs : (κs : Lfts 6) (args : Dens κs unwrap-response-kinds.ps) → IsBytes (now (args .0)) → UnwrapsResponse
-unwraps-response-runs κs args b =
-    let x = unwrapResponseOn (now (args .0)) (now (args .1 .0)) (args .1 .1 .0) (now (args .1 .1 .1 .0)) (length (now (args .1 .1 .1 .1 .0))) in
-    record {
-      κs = κs;
-      args = args;
-      number = unwrapResponseGives x .number;
-      exit = (at-last (args .0) (x .session), (at-last (args .1 .0) (x .len), (args .1 .1 .0, (args .1 .1 .1 .0, (at-last (args .1 .1 .1 .1 .0) (buffer (λ (m : Response). m .payload) (now (args .1 .1 .1 .1 .0)) (x .answer)), (at-last (args .1 .1 .1 .1 .1 .0) (unwrapResponseGives x .len), (at-last (args .1 .1 .1 .1 .1 .1 .0) (unwrapResponseGives x .status), tt)))))));
-      met = (refl, (refl, (refl, (refl, (refl, (refl, b))))));
-    }
+module _ (session : Bytes) (len : ℕ) (b : IsBytes session) where
+  abbrev pub closes : Closes
+  closes =
+      let l = Close.pivsmClose (Close.given session len) in
+      record {
+        κs = ([], ([], tt));
+        args = (to session, (to len, tt));
+        result = l .number;
+        exit = (to (l .held .bytes), (to (l .held .len), tt));
+        met = (refl, b);
+      }
+
+  pub closes-given : closeGiven closes ≡ Close.given session len
+  closes-given = refl
+
+  module _ (ins p1 p2 : ℕ) (le : Bool) (payload field : Bytes) (d : IsBytes payload) where
+    abbrev pub wraps-command : WrapsCommand
+    wraps-command =
+        let l = WrapCommand.pivsmWrapCommand (WrapCommand.given session len ins p1 p2 le payload field) in
+        record {
+          κs = ([], ([], ([], ([], ([], tt)))));
+          args = (to session, (to len, (ins, (p1, (p2, (le, (to payload, (to field, (to 0, tt)))))))));
+          result = l .number;
+          exit = (to (l .held .bytes), (to (l .held .len), (ins, (p1, (p2, (le, (to payload, (to (l .field), (to (l .written), tt)))))))));
+          met = (refl, (b, d));
+        }
+
+    pub wraps-command-given : wrapCommandGiven wraps-command ≡ WrapCommand.given session len ins p1 p2 le payload field
+    wraps-command-given = refl
+
+  module _ (ins p1 p2 : ℕ) (field payload : Bytes) where
+    abbrev pub unwraps-command : UnwrapsCommand
+    unwraps-command =
+        let l = UnwrapCommand.pivsmUnwrapCommand (UnwrapCommand.given session len ins p1 p2 field payload) in
+        record {
+          κs = ([], ([], ([], ([], ([], ([], tt))))));
+          args = (to session, (to len, (ins, (p1, (p2, (to field, (to payload, (to 0, (to false, tt)))))))));
+          result = l .number;
+          exit = (to (l .held .bytes), (to (l .held .len), (ins, (p1, (p2, (to field, (to (l .payload), (to (l .written), (to (l .le), tt)))))))));
+          met = (refl, b);
+        }
+
+    pub unwraps-command-given : unwrapCommandGiven unwraps-command ≡ UnwrapCommand.given session len ins p1 p2 field payload
+    unwraps-command-given = refl
+
+  module _ (sw : ℕ) (payload field : Bytes) (d : IsBytes payload) where
+    abbrev pub wraps-response : WrapsResponse
+    wraps-response =
+        let l = WrapResponse.pivsmWrapResponse (WrapResponse.given session len sw payload field) in
+        record {
+          κs = ([], ([], ([], ([], ([], tt)))));
+          args = (to session, (to len, (sw, (to payload, (to field, (to 0, tt))))));
+          result = l .number;
+          exit = (to (l .held .bytes), (to (l .held .len), (sw, (to payload, (to (l .field), (to (l .written), tt))))));
+          met = (refl, (b, d));
+        }
+
+    pub wraps-response-given : wrapResponseGiven wraps-response ≡ WrapResponse.given session len sw payload field
+    wraps-response-given = refl
+
+  module _ (sw : ℕ) (field payload : Bytes) where
+    abbrev pub unwraps-response : UnwrapsResponse
+    unwraps-response =
+        let l = UnwrapResponse.pivsmUnwrapResponse (UnwrapResponse.given session len sw field payload) in
+        record {
+          κs = ([], ([], ([], ([], ([], ([], tt))))));
+          args = (to session, (to len, (sw, (to field, (to payload, (to 0, (to 0, tt)))))));
+          result = l .number;
+          exit = (to (l .held .bytes), (to (l .held .len), (sw, (to field, (to (l .payload), (to (l .written), (to (l .status), tt)))))));
+          met = (refl, b);
+        }
+
+    pub unwraps-response-given : unwrapResponseGiven unwraps-response ≡ UnwrapResponse.given session len sw field payload
+    unwraps-response-given = refl

@@ -1,11 +1,11 @@
-pub mod SessionLengths
-pub mod HandedOn
+pub mod Named
 pub mod ServedCall
 pub mod Told
-pub mod RefusalKept
-pub mod OpenServed
 pub mod OpenedBytes
 pub mod Step
 pub mod Runs
+pub mod Delivered
+pub mod RefusalKept
 pub mod Exists
+pub mod GoesOn
 pub mod Theorems

@@ -1,39 +1,36 @@
--- A call on session bytes is the call on the session that they hold; its refusals keep the bytes or close the session. Assumes nothing.
+-- A call on session bytes is the call on the session that they hold; its refusals keep the bytes or close the session.
 use mathlib.Core.Path.{_≡_, refl, sym, ap, _∙_}
 use mathlib.Core.Bool.{Bool, true, false}
 use mathlib.Core.Logic.{_⊎_, inl, inr}
-use mathlib.Core.List.{_∷_, _++_, List·Memᴰ, List·Memᴰ·head, List·Memᴰ·tail}
-use Prim.Native.Nat.{ℕ, _≤_}
+use mathlib.Core.List.{_∷_, List·Memᴰ, List·Memᴰ·head, List·Memᴰ·tail}
+use Prim.Native.Nat.{ℕ}
 use native.Mathlib.Omega.{arith}
-use borrow.Author.Tests.{leb-true}
 use lib.Dec.{leb}
-use lib.ListN.{length, getD, take, drop, length-take, take-append-drop}
+use lib.ListN.{length, getD, take}
 use Rattle.octets.specs.Bytes.{Bytes, IsBytes}
 use Rattle.octets.specs.Choice.{if_then_else_}
-use Rattle.octets.specs.Write.{over}
 use Rattle.refusal.specs.Refusal.{number}
 use Rattle.refusal.specs.declared.Refusal.{Refusal}
-use Rattle.refusal.specs.declared.Refusal.the-variants.{BadSession}
+use Rattle.refusal.specs.declared.Refusal.the-variants.{BadMac, BadPadding, BadSession}
 use Rattle.session_suite.specs.Suites.{suiteOf}
 use Rattle.session_suite.specs.declared.SuiteNumber.{SuiteNumber}
 use Rattle.session_suite.specs.declared.SuiteNumber.the-variants.{Known, Unknown}
 use Rattle.session.specs.declared.Session.{Session}
 use Rattle.session_rules.specs.Valid.{valid}
-use Rattle.session_bytes.specs.Saved.{encode, headed, sessionFrom, decodedTo, unreadable, accepted, decodeSuite, decode}
+use Rattle.session_bytes.specs.Saved.{headed, sessionFrom, decodedTo, unreadable, accepted, decodeSuite, decode}
 use Rattle.session_bytes.specs.declared.Decoded.{Decoded}
 use Rattle.session_bytes.specs.declared.Decoding.{Decoding}
 use Rattle.session_bytes.specs.declared.Decoding.the-variants.{Decoded as Done, Refused}
-use Rattle.session_bytes.proofs.EncodeDecode.{decoded-read, encode-decode}
 use Rattle.message_ciphers.specs.Aes.{aesCiphers}
 use Rattle.message_answer.specs.Answer.{Answer, refused, Out, buffer}
 use Rattle.message_protocol.specs.RefusalKeeps.{order, writes, IsClosed}
 use Rattle.message_protocol.specs.Transcript.{Call, Gives, does}
 use Rattle.message_protocol.proofs.Theorems.{demand1}
-use Rattle.capi_session.specs.SessionBytes.{sessionIn, Served, servedBy, onSession}
-use Rattle.demand_capi.proofs.HandedOn.{bytes-taken}
+use Rattle.capi_session.specs.SessionBytes.{Served, servedBy, Held, sessionIn, putIn, onSession}
+use Rattle.capi_session.proofs.Serving.{read-from}
 
-abbrev pub servedCall : Bytes → ℕ → (c : Call) → Served (Gives c)
-servedCall held len c = onSession held len (λ s. does aesCiphers s c)
+abbrev pub servedCall : Held → (c : Call) → Served Held (Gives c)
+servedCall held c = onSession held (λ s. does aesCiphers s c)
 
 -- ---- reading
 
@@ -67,86 +64,64 @@ decode-16 b = go (headed b)
     go true = suite-16 b (suiteOf (getD b 5 0))
     go false = unreadable-16
 
-pub read-16 : (held : Bytes) (len : ℕ) → Only16 (sessionIn held len)
+pub read-16 : (h : Held) → Only16 (sessionIn h)
 unfolding sessionIn
-read-16 held len = go (leb len (length held))
+read-16 h = go (leb (h .len) (length (h .bytes)))
   where
-    go : (t : Bool) → Only16 (if t then decode (take len held) else unreadable)
-    go true = decode-16 (take len held)
+    go : (t : Bool) → Only16 (if t then decode (take (h .len) (h .bytes)) else unreadable)
+    go true = decode-16 (take (h .len) (h .bytes))
     go false = unreadable-16
-
--- what was read stands at the start of the buffer, and is the whole of it
-pub record ReadFrom (held : Bytes) (len : ℕ) : Type 0 where
-  pub long : len ≡ 138
-  pub back : over held (encode (sessionIn held len .session)) ≡ held
-
-pub read-from : (held : Bytes) (len : ℕ) → IsBytes held → sessionIn held len .answer ≡ Done → ReadFrom held len
-unfolding sessionIn over
-read-from held len h e = let r = go (leb len (length held)) refl e in record { long = r .0; back = r .1 }
-  where
-    go : (t : Bool) → leb len (length held) ≡ t → (if t then decode (take len held) else unreadable) .answer ≡ Done
-        → (len ≡ 138) × (over held (encode ((if t then decode (take len held) else unreadable) .session)) ≡ held)
-    go true f e =
-        let fits : len ≤ length held = leb-true len (length held) f in
-        let size : length (take len held) ≡ 138 = decoded-read (take len held) e .first .size in
-        let l : length (take len held) ≡ len = omega (arith, length-take len held) in (
-          omega (arith, size, l),
-          ap (over held) (encode-decode (take len held) (bytes-taken len held h) e)
-              ∙ ap (λ (n : ℕ). take len held ++ drop n held) l ∙ take-append-drop len held,
-        )
-    go false f e = never (cc)
 
 -- ---- refusals
 
-pub record ServedKeeps (held : Bytes) (len : ℕ) (c : Call) (r : Refusal) (buf : Bytes) : Type 0 where
-  pub in-order : List·Memᴰ (number r) (16 ∷ order c)
-  pub output : buffer (writes c) buf (servedCall held len c .answer) ≡ buf
-  pub closes : (number r ≡ 9) ⊎ (number r ≡ 10)
-      → (t : Session) × IsClosed (sessionIn held len .session) t × (servedCall held len c .session ≡ over held (encode t)) × (servedCall held len c .len ≡ 138)
-  pub stays : ((number r ≡ 9) ⊎ (number r ≡ 10) → ⊥) → (servedCall held len c .session ≡ held) × (servedCall held len c .len ≡ len)
+abbrev pub Closing : Refusal → Type 0
+Closing r = (number r ≡ number BadMac) ⊎ (number r ≡ number BadPadding)
+
+pub record ServedKeeps (held : Held) (c : Call) (r : Refusal) (buf : Bytes) : Type 0 where
+  pub in-order : List·Memᴰ (number r) (number BadSession ∷ order c)
+  pub output : buffer (writes c) buf (servedCall held c .answer) ≡ buf
+  pub closes : Closing r → (t : Session) × IsClosed (sessionIn held .session) t × (servedCall held c .held ≡ putIn held t)
+  pub stays : (Closing r → ⊥) → servedCall held c .held ≡ held
 
 same-refusal : {A : Type 0} {q r : Refusal} → _≡_ {A = Answer A} (refused q) (refused r) → q ≡ r
 same-refusal e = cc
 
-not-9-10 : {P : Type 0} (r : Refusal) → r ≡ BadSession → (number r ≡ 9) ⊎ (number r ≡ 10) → P
-not-9-10 r e (inl h) = let z : ⊥ = omega (arith, ap number e) in absurd z
-not-9-10 r e (inr h) = let z : ⊥ = omega (arith, ap number e) in absurd z
+not-closing : {P : Type 0} (r : Refusal) → r ≡ BadSession → Closing r → P
+not-closing r e (inl h) = let z : ⊥ = omega (arith, ap number e) in absurd z
+not-closing r e (inr h) = let z : ⊥ = omega (arith, ap number e) in absurd z
 
-module _ (held : Bytes) (len : ℕ) (c : Call) (bytes : IsBytes held) (r : Refusal) (buf : Bytes) where
+module _ (held : Held) (c : Call) (bytes : IsBytes (held .bytes)) (r : Refusal) (buf : Bytes) where
   abbrev d : Decoded
-  d = sessionIn held len
+  d = sessionIn held
 
   abbrev out : Out (Gives c)
   out = does aesCiphers (d .session) c
 
-  output-stays : servedCall held len c .answer ≡ refused r → buffer (writes c) buf (servedCall held len c .answer) ≡ buf
+  output-stays : servedCall held c .answer ≡ refused r → buffer (writes c) buf (servedCall held c .answer) ≡ buf
   unfolding buffer
   output-stays e = ap (buffer (writes c) buf) e
 
-  by-answer : (a : Decoding) → d .answer ≡ a → servedCall held len c .answer ≡ refused r → ServedKeeps held len c r buf
+  by-answer : (a : Decoding) → d .answer ≡ a → servedCall held c .answer ≡ refused r → ServedKeeps held c r buf
   unfolding servedBy
   by-answer Done told e =
-      let x : servedCall held len c ≡ record { answer = out .answer; session = over held (encode (out .next)); len = 138 } = ap (λ a. servedBy a held len out) told in
-      let k = demand1 (d .session) c r buf (sym (ap (λ (s : Served (Gives c)). s .answer) x) ∙ e) in
-      let f = read-from held len bytes told in
+      let x : servedCall held c ≡ record { answer = out .answer; held = putIn held (out .next) } = ap (λ a. servedBy a (putIn held) held out) told in
+      let k = demand1 (d .session) c r buf (sym (ap (λ (s : Served Held (Gives c)). s .answer) x) ∙ e) in
+      let f = read-from held told in
       record {
         in-order = List·Memᴰ·tail (k .in-order);
         output = output-stays e;
-        closes = λ h. (out .next, k .closes h, ap (λ (s : Served (Gives c)). s .session) x, ap (λ (s : Served (Gives c)). s .len) x);
-        stays = λ h. (
-          ap (λ (s : Served (Gives c)). s .session) x ∙ ap (λ (s : Session). over held (encode s)) (k .stays h) ∙ f .back,
-          ap (λ (s : Served (Gives c)). s .len) x ∙ sym (f .long),
-        );
+        closes = λ h. (out .next, k .closes h, ap (λ (s : Served Held (Gives c)). s .held) x);
+        stays = λ h. ap (λ (s : Served Held (Gives c)). s .held) x ∙ ap (putIn held) (k .stays h) ∙ f .back bytes;
       }
   by-answer (Refused q) told e =
-      let x : servedCall held len c ≡ record { answer = refused q; session = held; len = len } = ap (λ a. servedBy a held len out) told in
-      let is-16 : r ≡ BadSession = same-refusal (sym e ∙ ap (λ (s : Served (Gives c)). s .answer) x) ∙ read-16 held len q told in
+      let x : servedCall held c ≡ record { answer = refused q; held = held } = ap (λ a. servedBy a (putIn held) held out) told in
+      let is-16 : r ≡ BadSession = same-refusal (sym e ∙ ap (λ (s : Served Held (Gives c)). s .answer) x) ∙ read-16 held q told in
       record {
         in-order = List·Memᴰ·head (ap number is-16);
         output = output-stays e;
-        closes = λ h. not-9-10 r is-16 h;
-        stays = λ h. (ap (λ (s : Served (Gives c)). s .session) x, ap (λ (s : Served (Gives c)). s .len) x);
+        closes = λ h. not-closing r is-16 h;
+        stays = λ h. ap (λ (s : Served Held (Gives c)). s .held) x;
       }
 
-  pub served-keeps : servedCall held len c .answer ≡ refused r → ServedKeeps held len c r buf
+  pub served-keeps : servedCall held c .answer ≡ refused r → ServedKeeps held c r buf
   served-keeps = by-answer (d .answer) refl

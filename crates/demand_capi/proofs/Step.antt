@@ -1,4 +1,4 @@
--- One call from C, handed the bytes of its end's session: what it gives, and what it leaves. Assumes nothing.
+-- One call from C, handed the bytes of its end's session: what it gives, and what it leaves.
 use mathlib.Core.Path.{_≡_, refl, sym, ap, subst, _∙_}
 use mathlib.Core.Bool.{Bool, true, false, _||_}
 use mathlib.Core.Logic.{_⊎_, inl, inr}
@@ -9,14 +9,15 @@ use lib.ListN.{length, take, drop}
 use lib.Seq.{take-at}
 use Rattle.octets.specs.Bytes.{Bytes}
 use Rattle.octets.specs.Write.{over}
-use Rattle.refusal.specs.Refusal.{statusWord, number as numberOfRefusal}
+use Rattle.refusal.specs.Refusal.{statusWord, number}
 use Rattle.refusal.specs.declared.Refusal.{Refusal}
-use Rattle.refusal.specs.declared.Refusal.the-variants.{BadSession}
+use Rattle.refusal.specs.declared.Refusal.the-variants.{SessionClosed, BadSession}
 use Rattle.session.specs.declared.Session.{Session}
 use Rattle.session_rules.specs.Valid.{valid, countsAsOpen}
-use Rattle.session_bytes.specs.Saved.{encode, decodedTo}
-use Rattle.session_bytes.specs.declared.Decoded.{Decoded}
+use Rattle.session_bytes.specs.Saved.{encode}
+use Rattle.session_bytes.specs.Lengths.{Lengths}
 use Rattle.message_ciphers.specs.Aes.{aesCiphers}
+use Rattle.message_ciphers.proofs.AesLaws.{aes-mac-length}
 use Rattle.message_answer.specs.Message.{StatusWord, Response, CommandGiven}
 use Rattle.message_answer.specs.Answer.{Answer, refused, gave, Out, buffer}
 use Rattle.message_protocol.specs.Response.{responseAccepted, hostUnwraps}
@@ -24,17 +25,23 @@ use Rattle.message_protocol.specs.RefusalKeeps.{order}
 use Rattle.message_protocol.specs.Transcript.{Call, wrapCommand, unwrapCommand, wrapResponse, unwrapResponse, close, Gives, does}
 use Rattle.message_protocol.proofs.CallCases.{host-unwraps}
 use Rattle.message_protocol.proofs.RulesKept.{keeps-the-rules}
+use Rattle.message_protocol.proofs.LengthsKept.{keeps-lengths}
+use Rattle.message_protocol.proofs.OpenServed.{hit, met, answers-none-with-1, Serves, stays-open}
 use Rattle.message_protocol.proofs.Theorems.{demand1}
 use Rattle.message_result.specs.Results.{wrapAnswer, commandAnswer, responseAnswer}
-use Rattle.capi_values.specs.Values.{wrapValues, commandValues, responseValues}
-use Rattle.capi_session.specs.SessionBytes.{sessionIn, Served, servedBy}
-use Rattle.demand_capi.specs.Calls.{Event, wrapsCommand, unwrapsCommand, wrapsResponse, unwrapsResponse, closes, held, len, heldAfter, lenAfter, number, call, given, answered, answer}
-use Rattle.demand_capi.specs.Agreement.{End, closedBy, isClosing}
-use Rattle.demand_capi.proofs.SessionLengths.{Lengths, keeps-lengths}
-use Rattle.demand_capi.proofs.HandedOn.{reads-back, left-bytes}
-use Rattle.demand_capi.proofs.OpenServed.{hit, met, answers-none-with-1, Serves, stays-open}
-use Rattle.demand_capi.proofs.OpenedBytes.{number-suc}
-use Rattle.demand_capi.proofs.Told.{served, numberOf, number-told, held-told, len-told, output-told, held-bytes}
+use Rattle.capi_values.specs.Values.{statusOf, numberOf, wrapValues, commandValues, responseValues}
+use Rattle.refusal.proofs.Numbers.{number-suc}
+use Rattle.capi_session.specs.SessionBytes.{Served, Held, putIn, ownBuffer}
+use Rattle.capi_session.proofs.HandedOn.{reads-back, left-bytes, on-read}
+use Rattle.capi_wrap_command.specs.Call as WrapCommand
+use Rattle.capi_unwrap_command.specs.Call as UnwrapCommand
+use Rattle.capi_wrap_response.specs.Call as WrapResponse
+use Rattle.capi_unwrap_response.specs.Call as UnwrapResponse
+use Rattle.demand_capi.specs.Calls.{Event, wrapsCommand, unwrapsCommand, wrapsResponse, unwrapsResponse, closes, seen, call, given, answered, answer}
+use Rattle.demand_capi.specs.RefusalKeeps.{Closing}
+use Rattle.demand_capi.specs.Agreement.{End, HandedOn, closedBy, isClosing, leftBytes}
+use Rattle.demand_capi.proofs.Named.{wrap-command-told, unwrap-command-told, wrap-response-told, unwrap-response-told}
+use Rattle.demand_capi.proofs.Told.{served, number-told, held-told, output-told, held-bytes}
 
 never : {P : Type 0} → _≡_ {A = ℕ} 0 1 → P
 never z = let o : ⊥ = omega arith in absurd o
@@ -53,8 +60,8 @@ taken : (xs before after : Bytes) (n : ℕ) → n ≡ length xs → after ≡ ov
 unfolding over
 taken xs before after n en ea = ap (take n) ea ∙ take-at xs (drop (length xs) before) n (sym en)
 
-word-back : (sw : ℕ) (status : ℕ) (h : StatusWord) → status ≡ statusWord (h .sw1) (h .sw2) → h ≡ record { sw1 = sw / 256; sw2 = sw % 256 }
-    → record { sw1 = status / 256; sw2 = status % 256 } ≡ h
+word-back : (sw : ℕ) (status : ℕ) (h : StatusWord) → status ≡ statusWord (h .sw1) (h .sw2) → h ≡ statusOf sw
+    → statusOf status ≡ h
 word-back sw status h e q =
     let a : h .sw1 ≡ sw / 256 = ap (λ (x : StatusWord). x .sw1) q in
     let b : h .sw2 ≡ sw % 256 = ap (λ (x : StatusWord). x .sw2) q in
@@ -65,18 +72,25 @@ word-back sw status h e q =
 pub given-told : (e : Event) (s : Session) (g : Gives (call e)) → served e .answer ≡ gave g → does aesCiphers s (call e) .answer ≡ gave g → given e ≡ g
 unfolding does buffer
 given-told (wrapsCommand side c) s g q d =
-    taken g _ _ _ (c .met .1 .0 ∙ ap (λ (a : Answer Bytes). wrapValues (wrapAnswer a) .len) q) (output-told (wrapsCommand side c) ∙ ap (buffer (λ (f : Bytes). f) _) q)
+    taken g _ _ _ (ap (λ (l : WrapCommand.Left). l .written) (wrap-command-told c) ∙ ap (λ (a : Answer Bytes). wrapValues (wrapAnswer a) .len) q)
+    (output-told (wrapsCommand side c) ∙ ap (buffer (λ (f : Bytes). f) _) q)
 given-told (unwrapsCommand side c) s g q d =
-    let le-is = c .met .1 .1 .0 ∙ ap (λ (a : Answer CommandGiven). commandValues (commandAnswer a) .le) q in
-    let payload-is = taken (g .payload) _ _ _ (c .met .1 .0 ∙ ap (λ (a : Answer CommandGiven). commandValues (commandAnswer a) .len) q)
+    let le-is = ap (λ (l : UnwrapCommand.Left). l .le) (unwrap-command-told c) ∙ ap (λ (a : Answer CommandGiven). commandValues (commandAnswer a) .le) q in
+    let payload-is =
+    taken (g .payload) _ _ _
+    (ap (λ (l : UnwrapCommand.Left). l .written) (unwrap-command-told c) ∙ ap (λ (a : Answer CommandGiven). commandValues (commandAnswer a) .len) q)
     (output-told (unwrapsCommand side c) ∙ ap (buffer (λ (x : CommandGiven). x .payload) _) q) in
     λ i. record { payload = payload-is i; le = le-is i }
 given-told (wrapsResponse side c) s g q d =
-    taken g _ _ _ (c .met .1 .0 ∙ ap (λ (a : Answer Bytes). wrapValues (wrapAnswer a) .len) q) (output-told (wrapsResponse side c) ∙ ap (buffer (λ (f : Bytes). f) _) q)
+    taken g _ _ _ (ap (λ (l : WrapResponse.Left). l .written) (wrap-response-told c) ∙ ap (λ (a : Answer Bytes). wrapValues (wrapAnswer a) .len) q)
+    (output-told (wrapsResponse side c) ∙ ap (buffer (λ (f : Bytes). f) _) q)
 given-told (unwrapsResponse side c) s g q d =
-    let status-is = c .met .1 .1 .0 ∙ ap (λ (a : Answer Response). responseValues (responseAnswer a) .status) q in
+    let status-is =
+    ap (λ (l : UnwrapResponse.Left). l .status) (unwrap-response-told c) ∙ ap (λ (a : Answer Response). responseValues (responseAnswer a) .status) q in
     let header-is = word-back _ _ (g .header) status-is (header-kept s _ _ _ g d) in
-    let payload-is = taken (g .payload) _ _ _ (c .met .1 .0 ∙ ap (λ (a : Answer Response). responseValues (responseAnswer a) .len) q)
+    let payload-is =
+    taken (g .payload) _ _ _
+    (ap (λ (l : UnwrapResponse.Left). l .written) (unwrap-response-told c) ∙ ap (λ (a : Answer Response). responseValues (responseAnswer a) .len) q)
     (output-told (unwrapsResponse side c) ∙ ap (buffer (λ (x : Response). x .payload) _) q) in
     λ i. record { header = header-is i; payload = payload-is i }
 given-told (closes side c) s g q d = refl
@@ -97,52 +111,52 @@ lacks-16 (wrapResponse side m room) d = let z : false ≡ true = met 16 _ d in n
 lacks-16 (unwrapResponse side sw field room) d = let z : false ≡ true = met 16 _ d in never (cc)
 lacks-16 (close side) d = let z : false ≡ true = met 16 _ d in never (cc)
 
-not-closing : (n : ℕ) → closedBy n ≡ false → (n ≡ 9) ⊎ (n ≡ 10) → ⊥
+not-closing : (n : ℕ) → closedBy n ≡ false → Closing n → ⊥
 not-closing n f (inl e) = let z : true ≡ false = sym (ap closedBy e) ∙ f in never (cc)
 not-closing n f (inr e) = let z : true ≡ false = sym (ap closedBy e) ∙ f in never (cc)
 
-keeps-open : (e : Event) → isClosing e ≡ false → ((number e ≡ 9) ⊎ (number e ≡ 10) → ⊥) × Serves (call e)
-keeps-open (wrapsCommand side c) f = (not-closing (c .number) f, tt)
-keeps-open (unwrapsCommand side c) f = (not-closing (c .number) f, tt)
-keeps-open (wrapsResponse side c) f = (not-closing (c .number) f, tt)
-keeps-open (unwrapsResponse side c) f = (not-closing (c .number) f, tt)
+keeps-open : (e : Event) → isClosing e ≡ false → (Closing (seen e .number) → ⊥) × Serves (call e)
+keeps-open (wrapsCommand side c) f = (not-closing (c .result) f, tt)
+keeps-open (unwrapsCommand side c) f = (not-closing (c .result) f, tt)
+keeps-open (wrapsResponse side c) f = (not-closing (c .result) f, tt)
+keeps-open (unwrapsResponse side c) f = (not-closing (c .result) f, tt)
 keeps-open (closes side c) f = never (cc)
 
 both-false : (a b : Bool) → (a || b) ≡ false → (a ≡ false) × (b ≡ false)
 both-false true b e = never (cc)
 both-false false b e = (refl, e)
 
-module _ (e : Event) (x : End) (s : Session) (good : Good x s) (handed : take (len e) (held e) ≡ x .bytes) (long : len e ≡ length (x .bytes)) where
+module _ (e : Event) (x : End) (s : Session) (good : Good x s) (handed : HandedOn x e) where
   abbrev out : Out (Gives (call e))
   out = does aesCiphers s (call e)
 
-  read-is : sessionIn (held e) (len e) ≡ decodedTo s
-  read-is = reads-back (held e) (len e) s (held-bytes e) (good .rules) (good .lengths) (handed ∙ good .bytes) (long ∙ ap length (good .bytes))
-
-  served-is : served e ≡ record { answer = out .answer; session = over (held e) (encode (out .next)); len = 138 }
-  unfolding servedBy
-  served-is = ap (λ (d : Decoded). servedBy (d .answer) (held e) (len e) (does aesCiphers (d .session) (call e))) read-is
+  served-is : served e ≡ record { answer = out .answer; held = putIn (seen e .held) (out .next) }
+  served-is =
+      on-read ownBuffer (seen e .held) s (λ (t : Session). does aesCiphers t (call e))
+      (reads-back (seen e .held) s (held-bytes e) (good .rules) (good .lengths) (handed .bytes ∙ good .bytes) (handed .len ∙ ap length (good .bytes)))
 
   answer-is : served e .answer ≡ out .answer
-  answer-is = ap (λ (y : Served (Gives (call e))). y .answer) served-is
+  answer-is = ap (λ (y : Served Held (Gives (call e))). y .answer) served-is
 
-  pub number-is : number e ≡ numberOf (out .answer)
+  pub number-is : seen e .number ≡ numberOf (out .answer)
   number-is = number-told e ∙ ap numberOf answer-is
 
-  bytes-after : take (lenAfter e) (heldAfter e) ≡ encode (out .next)
-  bytes-after =
-      ap (λ (n : ℕ). take n (heldAfter e)) (len-told e ∙ ap (λ (y : Served (Gives (call e))). y .len) served-is)
-      ∙ ap (take 138) (held-told e ∙ ap (λ (y : Served (Gives (call e))). y .session) served-is)
-      ∙ left-bytes (held e) (out .next) (keeps-lengths s (good .lengths) (call e))
+  next-lengths : Lengths (out .next)
+  next-lengths = keeps-lengths aesCiphers aes-mac-length s (good .lengths) (call e)
 
-  pub not-16 : number e ≡ 16 → ⊥
+  pub bytes-after : leftBytes e ≡ encode (out .next)
+  bytes-after =
+      ap (λ (h : Held). take (h .len) (h .bytes)) (held-told e ∙ ap (λ (y : Served Held (Gives (call e))). y .held) served-is)
+      ∙ left-bytes (seen e .held) (out .next) next-lengths
+
+  pub not-16 : seen e .number ≡ number BadSession → ⊥
   not-16 n = go (out .answer) refl (sym number-is ∙ n)
     where
       go : (a : Answer (Gives (call e))) → out .answer ≡ a → numberOf a ≡ 16 → ⊥
       go (refused r) q m = lacks-16 (call e) (subst (λ (i : ℕ). List·Memᴰ i (order (call e))) m (demand1 s (call e) r [] q .in-order))
       go (gave g) q m = omega (arith, m)
 
-  pub one-if-closed : number e ≡ 1 → x .closed ≡ true
+  pub one-if-closed : seen e .number ≡ number SessionClosed → x .closed ≡ true
   one-if-closed n = go (x .closed) refl
     where
       by-answer : (a : Answer (Gives (call e))) → out .answer ≡ a → numberOf a ≡ 1 → countsAsOpen s ≡ true → ⊥
@@ -160,18 +174,18 @@ module _ (e : Event) (x : End) (s : Session) (good : Good x s) (handed : take (l
       let o = good .open-is (b .0) in
       go (k .0) (k .1) o (out .answer) refl
     where
-      go : ((number e ≡ 9) ⊎ (number e ≡ 10) → ⊥) → Serves (call e) → countsAsOpen s ≡ true → (a : Answer (Gives (call e))) → out .answer ≡ a → countsAsOpen (out .next) ≡ true
+      go : (Closing (seen e .number) → ⊥) → Serves (call e) → countsAsOpen s ≡ true → (a : Answer (Gives (call e))) → out .answer ≡ a → countsAsOpen (out .next) ≡ true
       go not serves o (refused r) q =
-          let n : number e ≡ numberOfRefusal r = number-is ∙ ap numberOf q in
-          subst (λ (t : Session). countsAsOpen t ≡ true) (sym (demand1 s (call e) r [] q .stays (λ nine. not (subst (λ (i : ℕ). (i ≡ 9) ⊎ (i ≡ 10)) (sym n) nine)))) o
+          let n : seen e .number ≡ number r = number-is ∙ ap numberOf q in
+          subst (λ (t : Session). countsAsOpen t ≡ true) (sym (demand1 s (call e) r [] q .stays (λ nine. not (subst Closing (sym n) nine)))) o
       go not serves o (gave g) q = stays-open aesCiphers s o (call e) serves g q
 
-  pub good-next : Good (record { bytes = take (lenAfter e) (heldAfter e); closed = x .closed || isClosing e }) (out .next)
+  pub good-next : Good (record { bytes = leftBytes e; closed = x .closed || isClosing e }) (out .next)
   good-next =
       record {
         bytes = bytes-after;
         rules = keeps-the-rules aesCiphers s (good .rules) (call e);
-        lengths = keeps-lengths s (good .lengths) (call e);
+        lengths = next-lengths;
         open-is = next-open;
       }
 

@@ -1,13 +1,10 @@
--- Calls that a program in C made (c/include/pivsm.h). Each is an exported function's arguments, its result and what its references hold at exit, of which the
--- function's contract holds (`Learnt`, which Rattle generates from the contract and proves of the code). Assumes nothing.
-use mathlib.Core.Bool.{Bool, false}
-use mathlib.Core.List.{[]}
-use Prim.Native.Nat.{ℕ, zero, suc, _/_, _%_}
+-- Calls that a program in C made (c/include/pivsm.h). Each is an exported function's arguments, its result and what
+-- its references hold at exit, of which the function's contract holds (`Learnt`, which Rattle generates from the
+-- contract and proves of the code). The places of the arguments are counted in `…Given` and `…Left` alone;
+-- proofs/Named.antt shows that each stands where the contract has it, and where every call from C has it.
+use Prim.Native.Nat.{ℕ, zero, suc}
 use lib.ListN.{length, take}
-use contract.Lifetimes.{Lfts}
 use denote.Ref.{now}
-use denote.Triple.Clauses.{AtExit}
-use borrow.Fn.Kinds.{Dens, endedOf}
 use Rattle.capi_open.proofs.pivsm_open_host.Reads as open-host
 use Rattle.capi_open.proofs.pivsm_open_host.Kinds as open-host-kinds
 use Rattle.capi_open.proofs.pivsm_open_card.Reads as open-card
@@ -22,86 +19,115 @@ use Rattle.capi_wrap_response.proofs.pivsm_wrap_response.Reads as wrap-response
 use Rattle.capi_wrap_response.proofs.pivsm_wrap_response.Kinds as wrap-response-kinds
 use Rattle.capi_unwrap_response.proofs.pivsm_unwrap_response.Reads as unwrap-response
 use Rattle.capi_unwrap_response.proofs.pivsm_unwrap_response.Kinds as unwrap-response-kinds
+use Rattle.capi_open.specs.Call as Open
+use Rattle.capi_close.specs.Call as Close
+use Rattle.capi_wrap_command.specs.Call as WrapCommand
+use Rattle.capi_unwrap_command.specs.Call as UnwrapCommand
+use Rattle.capi_wrap_response.specs.Call as WrapResponse
+use Rattle.capi_unwrap_response.specs.Call as UnwrapResponse
+use Rattle.demand_calls.specs.Ran.{Ran}
 use Rattle.octets.specs.Bytes.{Bytes}
 use Rattle.refusal.specs.declared.Refusal.the-variants.{BadSession}
-use Rattle.session_suite.specs.StoredKeys.{Keys, keys}
 use Rattle.session.specs.declared.Side.{Side}
 use Rattle.message_answer.specs.Answer.{Answer, refused, gave}
 use Rattle.message_protocol.specs.Transcript.{Call, wrapCommand, unwrapCommand, wrapResponse, unwrapResponse, close, Gives}
+use Rattle.capi_values.specs.Values.{statusOf}
+use Rattle.capi_session.specs.SessionBytes.{Held}
 
 -- ---- openings
 
--- pivsm_open_host(suite, sk_enc, sk_mac, sk_rmac, session, len)
-pub record OpensHost : Type 0 where
-  pub κs : Lfts 5
-  pub args : Dens κs open-host-kinds.ps
-  pub number : ℕ
-  pub exit : AtExit (endedOf 5 open-host-kinds.ps open-host-kinds.r) κs
-  pub met : open-host.Learnt κs args number exit
+abbrev pub OpensHost : Type 0
+OpensHost = Ran 5 open-host-kinds.ps open-host-kinds.r ℕ open-host.Learnt
 
-abbrev pub hostKeys : OpensHost → Keys
-hostKeys o = keys (now (o .args .1 .0)) (now (o .args .1 .1 .0)) (now (o .args .1 .1 .1 .0))
+abbrev pub OpensCard : Type 0
+OpensCard = Ran 5 open-card-kinds.ps open-card-kinds.r ℕ open-card.Learnt
 
--- the bytes of the session
-abbrev pub hostBytes : OpensHost → Bytes
-hostBytes o = take (now (o .exit .1 .1 .1 .1 .1 .0)) (now (o .exit .1 .1 .1 .1 .0))
+abbrev pub openHostGiven : OpensHost → Open.Given
+openHostGiven c =
+    Open.given (c .args .0) (now (c .args .1 .0)) (now (c .args .1 .1 .0)) (now (c .args .1 .1 .1 .0))
+    (now (c .args .1 .1 .1 .1 .0))
 
--- pivsm_open_card(suite, sk_enc, sk_mac, sk_rmac, session, len)
-pub record OpensCard : Type 0 where
-  pub κs : Lfts 5
-  pub args : Dens κs open-card-kinds.ps
-  pub number : ℕ
-  pub exit : AtExit (endedOf 5 open-card-kinds.ps open-card-kinds.r) κs
-  pub met : open-card.Learnt κs args number exit
+abbrev pub openHostLeft : OpensHost → Open.Left
+openHostLeft c = Open.left (c .result) (now (c .exit .1 .1 .1 .1 .0)) (now (c .exit .1 .1 .1 .1 .1 .0))
 
-abbrev pub cardKeys : OpensCard → Keys
-cardKeys o = keys (now (o .args .1 .0)) (now (o .args .1 .1 .0)) (now (o .args .1 .1 .1 .0))
+abbrev pub openCardGiven : OpensCard → Open.Given
+openCardGiven c =
+    Open.given (c .args .0) (now (c .args .1 .0)) (now (c .args .1 .1 .0)) (now (c .args .1 .1 .1 .0))
+    (now (c .args .1 .1 .1 .1 .0))
 
--- the bytes of the session
-abbrev pub cardBytes : OpensCard → Bytes
-cardBytes o = take (now (o .exit .1 .1 .1 .1 .1 .0)) (now (o .exit .1 .1 .1 .1 .0))
+abbrev pub openCardLeft : OpensCard → Open.Left
+openCardLeft c = Open.left (c .result) (now (c .exit .1 .1 .1 .1 .0)) (now (c .exit .1 .1 .1 .1 .1 .0))
+
+-- the bytes of the session that was opened
+abbrev pub opened : Open.Left → Bytes
+opened l = take (l .len) (l .session)
 
 -- ---- the five calls
 
--- pivsm_close(session, len)
-pub record Closes : Type 0 where
-  pub κs : Lfts 2
-  pub args : Dens κs close-kinds.ps
-  pub number : ℕ
-  pub exit : AtExit (endedOf 2 close-kinds.ps close-kinds.r) κs
-  pub met : close.Learnt κs args number exit
+abbrev pub Closes : Type 0
+Closes = Ran 2 close-kinds.ps close-kinds.r ℕ close.Learnt
 
--- pivsm_wrap_command(session, len, ins, p1, p2, le, data, field, written)
-pub record WrapsCommand : Type 0 where
-  pub κs : Lfts 5
-  pub args : Dens κs wrap-command-kinds.ps
-  pub number : ℕ
-  pub exit : AtExit (endedOf 5 wrap-command-kinds.ps wrap-command-kinds.r) κs
-  pub met : wrap-command.Learnt κs args number exit
+abbrev pub closeGiven : Closes → Close.Given
+closeGiven c = Close.given (now (c .args .0)) (now (c .args .1 .0))
 
--- pivsm_unwrap_command(session, len, ins, p1, p2, field, data, written, le)
-pub record UnwrapsCommand : Type 0 where
-  pub κs : Lfts 6
-  pub args : Dens κs unwrap-command-kinds.ps
-  pub number : ℕ
-  pub exit : AtExit (endedOf 6 unwrap-command-kinds.ps unwrap-command-kinds.r) κs
-  pub met : unwrap-command.Learnt κs args number exit
+abbrev pub closeLeft : Closes → Close.Left
+closeLeft c = Close.left (c .result) (now (c .exit .0)) (now (c .exit .1 .0))
 
--- pivsm_wrap_response(session, len, sw, data, field, written)
-pub record WrapsResponse : Type 0 where
-  pub κs : Lfts 5
-  pub args : Dens κs wrap-response-kinds.ps
-  pub number : ℕ
-  pub exit : AtExit (endedOf 5 wrap-response-kinds.ps wrap-response-kinds.r) κs
-  pub met : wrap-response.Learnt κs args number exit
+abbrev pub WrapsCommand : Type 0
+WrapsCommand = Ran 5 wrap-command-kinds.ps wrap-command-kinds.r ℕ wrap-command.Learnt
 
--- pivsm_unwrap_response(session, len, sw, field, data, written, status)
-pub record UnwrapsResponse : Type 0 where
-  pub κs : Lfts 6
-  pub args : Dens κs unwrap-response-kinds.ps
-  pub number : ℕ
-  pub exit : AtExit (endedOf 6 unwrap-response-kinds.ps unwrap-response-kinds.r) κs
-  pub met : unwrap-response.Learnt κs args number exit
+abbrev pub wrapCommandGiven : WrapsCommand → WrapCommand.Given
+wrapCommandGiven c =
+    WrapCommand.given (now (c .args .0)) (now (c .args .1 .0)) (c .args .1 .1 .0) (c .args .1 .1 .1 .0)
+    (c .args .1 .1 .1 .1 .0)
+    (c .args .1 .1 .1 .1 .1 .0) (now (c .args .1 .1 .1 .1 .1 .1 .0)) (now (c .args .1 .1 .1 .1 .1 .1 .1 .0))
+
+abbrev pub wrapCommandLeft : WrapsCommand → WrapCommand.Left
+wrapCommandLeft c =
+    WrapCommand.left (c .result) (now (c .exit .0)) (now (c .exit .1 .0)) (now (c .exit .1 .1 .1 .1 .1 .1 .1 .0))
+    (now (c .exit .1 .1 .1 .1 .1 .1 .1 .1 .0))
+
+abbrev pub UnwrapsCommand : Type 0
+UnwrapsCommand = Ran 6 unwrap-command-kinds.ps unwrap-command-kinds.r ℕ unwrap-command.Learnt
+
+abbrev pub unwrapCommandGiven : UnwrapsCommand → UnwrapCommand.Given
+unwrapCommandGiven c =
+    UnwrapCommand.given (now (c .args .0)) (now (c .args .1 .0)) (c .args .1 .1 .0) (c .args .1 .1 .1 .0)
+    (c .args .1 .1 .1 .1 .0)
+    (now (c .args .1 .1 .1 .1 .1 .0)) (now (c .args .1 .1 .1 .1 .1 .1 .0))
+
+abbrev pub unwrapCommandLeft : UnwrapsCommand → UnwrapCommand.Left
+unwrapCommandLeft c =
+    UnwrapCommand.left (c .result) (now (c .exit .0)) (now (c .exit .1 .0)) (now (c .exit .1 .1 .1 .1 .1 .1 .0))
+    (now (c .exit .1 .1 .1 .1 .1 .1 .1 .0)) (now (c .exit .1 .1 .1 .1 .1 .1 .1 .1 .0))
+
+abbrev pub WrapsResponse : Type 0
+WrapsResponse = Ran 5 wrap-response-kinds.ps wrap-response-kinds.r ℕ wrap-response.Learnt
+
+abbrev pub wrapResponseGiven : WrapsResponse → WrapResponse.Given
+wrapResponseGiven c =
+    WrapResponse.given (now (c .args .0)) (now (c .args .1 .0)) (c .args .1 .1 .0) (now (c .args .1 .1 .1 .0))
+    (now (c .args .1 .1 .1 .1 .0))
+
+abbrev pub wrapResponseLeft : WrapsResponse → WrapResponse.Left
+wrapResponseLeft c =
+    WrapResponse.left (c .result) (now (c .exit .0)) (now (c .exit .1 .0)) (now (c .exit .1 .1 .1 .1 .0))
+    (now (c .exit .1 .1 .1 .1 .1 .0))
+
+abbrev pub UnwrapsResponse : Type 0
+UnwrapsResponse = Ran 6 unwrap-response-kinds.ps unwrap-response-kinds.r ℕ unwrap-response.Learnt
+
+abbrev pub unwrapResponseGiven : UnwrapsResponse → UnwrapResponse.Given
+unwrapResponseGiven c =
+    UnwrapResponse.given (now (c .args .0)) (now (c .args .1 .0)) (c .args .1 .1 .0) (now (c .args .1 .1 .1 .0))
+    (now (c .args .1 .1 .1 .1 .0))
+
+abbrev pub unwrapResponseLeft : UnwrapsResponse → UnwrapResponse.Left
+unwrapResponseLeft c =
+    UnwrapResponse.left (c .result) (now (c .exit .0)) (now (c .exit .1 .0)) (now (c .exit .1 .1 .1 .1 .0))
+    (now (c .exit .1 .1 .1 .1 .1 .0)) (now (c .exit .1 .1 .1 .1 .1 .1 .0))
+
+-- ---- events
 
 -- a call, and the end that made it
 pub data Event : Type 0 where
@@ -118,93 +144,42 @@ end (wrapsResponse side c) = side
 end (unwrapsResponse side c) = side
 end (closes side c) = side
 
--- the buffer of the session and the length of the session in it, before and after
-abbrev pub held : Event → Bytes
-held (wrapsCommand side c) = now (c .args .0)
-held (unwrapsCommand side c) = now (c .args .0)
-held (wrapsResponse side c) = now (c .args .0)
-held (unwrapsResponse side c) = now (c .args .0)
-held (closes side c) = now (c .args .0)
+-- the session as it was handed in and as it was left, and the result
+pub record Seen : Type 0 where
+  pub held : Held
+  pub heldAfter : Held
+  pub number : ℕ
 
-abbrev pub len : Event → ℕ
-len (wrapsCommand side c) = now (c .args .1 .0)
-len (unwrapsCommand side c) = now (c .args .1 .0)
-len (wrapsResponse side c) = now (c .args .1 .0)
-len (unwrapsResponse side c) = now (c .args .1 .0)
-len (closes side c) = now (c .args .1 .0)
-
-abbrev pub heldAfter : Event → Bytes
-heldAfter (wrapsCommand side c) = now (c .exit .0)
-heldAfter (unwrapsCommand side c) = now (c .exit .0)
-heldAfter (wrapsResponse side c) = now (c .exit .0)
-heldAfter (unwrapsResponse side c) = now (c .exit .0)
-heldAfter (closes side c) = now (c .exit .0)
-
-abbrev pub lenAfter : Event → ℕ
-lenAfter (wrapsCommand side c) = now (c .exit .1 .0)
-lenAfter (unwrapsCommand side c) = now (c .exit .1 .0)
-lenAfter (wrapsResponse side c) = now (c .exit .1 .0)
-lenAfter (unwrapsResponse side c) = now (c .exit .1 .0)
-lenAfter (closes side c) = now (c .exit .1 .0)
-
--- the other buffer, before and after
-abbrev pub before : Event → Bytes
-before (wrapsCommand side c) = now (c .args .1 .1 .1 .1 .1 .1 .1 .0)
-before (unwrapsCommand side c) = now (c .args .1 .1 .1 .1 .1 .1 .0)
-before (wrapsResponse side c) = now (c .args .1 .1 .1 .1 .0)
-before (unwrapsResponse side c) = now (c .args .1 .1 .1 .1 .0)
-before (closes side c) = []
-
-abbrev pub after : Event → Bytes
-after (wrapsCommand side c) = now (c .exit .1 .1 .1 .1 .1 .1 .1 .0)
-after (unwrapsCommand side c) = now (c .exit .1 .1 .1 .1 .1 .1 .0)
-after (wrapsResponse side c) = now (c .exit .1 .1 .1 .1 .0)
-after (unwrapsResponse side c) = now (c .exit .1 .1 .1 .1 .0)
-after (closes side c) = []
-
--- its result, and the numbers that it wrote; 0 and false where it writes none
-abbrev pub number : Event → ℕ
-number (wrapsCommand side c) = c .number
-number (unwrapsCommand side c) = c .number
-number (wrapsResponse side c) = c .number
-number (unwrapsResponse side c) = c .number
-number (closes side c) = c .number
-
-abbrev pub written : Event → ℕ
-written (wrapsCommand side c) = now (c .exit .1 .1 .1 .1 .1 .1 .1 .1 .0)
-written (unwrapsCommand side c) = now (c .exit .1 .1 .1 .1 .1 .1 .1 .0)
-written (wrapsResponse side c) = now (c .exit .1 .1 .1 .1 .1 .0)
-written (unwrapsResponse side c) = now (c .exit .1 .1 .1 .1 .1 .0)
-written (closes side c) = 0
-
-abbrev pub status : Event → ℕ
-status (wrapsCommand side c) = 0
-status (unwrapsCommand side c) = 0
-status (wrapsResponse side c) = 0
-status (unwrapsResponse side c) = now (c .exit .1 .1 .1 .1 .1 .1 .0)
-status (closes side c) = 0
-
-abbrev pub le : Event → Bool
-le (wrapsCommand side c) = false
-le (unwrapsCommand side c) = now (c .exit .1 .1 .1 .1 .1 .1 .1 .1 .0)
-le (wrapsResponse side c) = false
-le (unwrapsResponse side c) = false
-le (closes side c) = false
+abbrev pub seen : Event → Seen
+seen (wrapsCommand side c) =
+    let l = wrapCommandLeft c in record { held = wrapCommandGiven c .held; heldAfter = l .held; number = l .number }
+seen (unwrapsCommand side c) =
+    let l = unwrapCommandLeft c in record { held = unwrapCommandGiven c .held; heldAfter = l .held; number = l .number }
+seen (wrapsResponse side c) =
+    let l = wrapResponseLeft c in record { held = wrapResponseGiven c .held; heldAfter = l .held; number = l .number }
+seen (unwrapsResponse side c) =
+    let l = unwrapResponseLeft c in record { held = unwrapResponseGiven c .held; heldAfter = l .held; number = l .number }
+seen (closes side c) =
+    let l = closeLeft c in record { held = closeGiven c .held; heldAfter = l .held; number = l .number }
 
 -- the call as the transcript has it: every argument but the session
 abbrev pub call : Event → Call
-call (wrapsCommand side c) = wrapCommand side (record { header = record { ins = c .args .1 .1 .0; p1 = c .args .1 .1 .1 .0; p2 = c .args .1 .1 .1 .1 .0; le = c .args .1 .1 .1 .1 .1 .0 }; payload = now (c .args .1 .1 .1 .1 .1 .1 .0) }) (length (before (wrapsCommand side c)))
-call (unwrapsCommand side c) = unwrapCommand side (c .args .1 .1 .0) (c .args .1 .1 .1 .0) (c .args .1 .1 .1 .1 .0) (now (c .args .1 .1 .1 .1 .1 .0)) (length (before (unwrapsCommand side c)))
-call (wrapsResponse side c) = wrapResponse side (record { header = record { sw1 = c .args .1 .1 .0 / 256; sw2 = c .args .1 .1 .0 % 256 }; payload = now (c .args .1 .1 .1 .0) }) (length (before (wrapsResponse side c)))
-call (unwrapsResponse side c) = unwrapResponse side (record { sw1 = c .args .1 .1 .0 / 256; sw2 = c .args .1 .1 .0 % 256 }) (now (c .args .1 .1 .1 .0)) (length (before (unwrapsResponse side c)))
+call (wrapsCommand side c) = let g = wrapCommandGiven c in wrapCommand side (g .message) (length (g .field))
+call (unwrapsCommand side c) =
+    let g = unwrapCommandGiven c in unwrapCommand side (g .ins) (g .p1) (g .p2) (g .field) (length (g .payload))
+call (wrapsResponse side c) = let g = wrapResponseGiven c in wrapResponse side (g .message) (length (g .field))
+call (unwrapsResponse side c) =
+    let g = unwrapResponseGiven c in unwrapResponse side (g .sw) (g .field) (length (g .payload))
 call (closes side c) = close side
 
 -- what it gave, where it was not refused: as many bytes as it says, from the start of the buffer
 abbrev pub given : (e : Event) → Gives (call e)
-given (wrapsCommand side c) = take (written (wrapsCommand side c)) (after (wrapsCommand side c))
-given (unwrapsCommand side c) = record { payload = take (written (unwrapsCommand side c)) (after (unwrapsCommand side c)); le = le (unwrapsCommand side c) }
-given (wrapsResponse side c) = take (written (wrapsResponse side c)) (after (wrapsResponse side c))
-given (unwrapsResponse side c) = record { header = record { sw1 = status (unwrapsResponse side c) / 256; sw2 = status (unwrapsResponse side c) % 256 }; payload = take (written (unwrapsResponse side c)) (after (unwrapsResponse side c)) }
+given (wrapsCommand side c) = let l = wrapCommandLeft c in take (l .written) (l .field)
+given (unwrapsCommand side c) =
+    let l = unwrapCommandLeft c in record { payload = take (l .written) (l .payload); le = l .le }
+given (wrapsResponse side c) = let l = wrapResponseLeft c in take (l .written) (l .field)
+given (unwrapsResponse side c) =
+    let l = unwrapResponseLeft c in record { header = statusOf (l .status); payload = take (l .written) (l .payload) }
 given (closes side c) = tt
 
 -- where it was, the number tells why; to the transcript every refusal is the same
@@ -213,4 +188,4 @@ answered zero a = gave a
 answered (suc n) a = refused BadSession
 
 abbrev pub answer : (e : Event) → Answer (Gives (call e))
-answer e = answered (number e) (given e)
+answer e = answered (seen e .number) (given e)

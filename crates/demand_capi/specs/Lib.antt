@@ -1,3 +1,5 @@
 pub mod Calls
 pub mod RefusalKeeps
 pub mod Agreement
+pub mod HonestDelivery
+pub mod Exists

@@ -1,8 +1,8 @@
 -- Demand 1 of fragmenting and reassembling, of the functions, from their definitions.
 -- Assumes nothing.
-use mathlib.Core.Path.{_≡_, refl, sym, ap, _∙_}
+use mathlib.Core.Path.{_≡_, sym, ap, _∙_}
 use mathlib.Core.Bool.{Bool, true, false}
-use mathlib.Core.List.{List, [], _∷_, List·Memᴰ, List·Memᴰ·head, List·Memᴰ·tail}
+use mathlib.Core.List.{List, [], _∷_, List·Memᴰ}
 use Prim.Native.Nat.{ℕ}
 use native.Mathlib.Omega.{arith}
 use lib.ListN.{length}
@@ -10,7 +10,7 @@ use Rattle.octets.specs.Bytes.{Bytes}
 use Rattle.refusal.specs.declared.Refusal.{Refusal}
 use Rattle.message_answer.specs.Message.{StatusWord}
 use Rattle.message_answer.specs.Answer.{Answer, refused, gave, buffer}
-use Rattle.message_protocol.proofs.Refused.{Among, require-among, gave-among}
+use Rattle.message_answer.proofs.Among.{Among, gave-among, require-among, first, later}
 use Rattle.chain_command.specs.Apdu.{Header, headerOf, isLast}
 use Rattle.chain_command.specs.Fragment.{fragmentCommand, fragmentAnswer}
 use Rattle.chain_command.specs.Reassembly.{empty, total, reassemblyChecks, taken, concluded, reassembleCommand, written, reassemblyBuffer}
@@ -29,17 +29,14 @@ use Rattle.demand_chaining.specs.RefusalKeeps.{fragmentsCommand, reassem
 
 -- ---- places in an order
 
-first : {n : ℕ} {ns : List ℕ} → List·Memᴰ n (n ∷ ns)
-first = List·Memᴰ·head refl
-
 second : {n a : ℕ} {ns : List ℕ} → List·Memᴰ n (a ∷ n ∷ ns)
-second = List·Memᴰ·tail first
+second = later first
 
 third : {n a b : ℕ} {ns : List ℕ} → List·Memᴰ n (a ∷ b ∷ n ∷ ns)
-third = List·Memᴰ·tail second
+third = later second
 
 fourth : {n a b c : ℕ} {ns : List ℕ} → List·Memᴰ n (a ∷ b ∷ c ∷ n ∷ ns)
-fourth = List·Memᴰ·tail third
+fourth = later third
 
 -- ---- the refusals of each definition
 

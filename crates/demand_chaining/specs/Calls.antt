@@ -3,10 +3,7 @@
 use mathlib.Core.List.{[]}
 use Prim.Native.Nat.{ℕ}
 use lib.ListN.{take}
-use contract.Lifetimes.{Lfts}
 use denote.Ref.{now}
-use denote.Triple.Clauses.{AtExit}
-use borrow.Fn.Kinds.{Dens, endedOf}
 use Rattle.chain_fragment_command.proofs.fragment_command.Reads as fragment-command
 use Rattle.chain_fragment_command.proofs.fragment_command.Kinds as fragment-command-kinds
 use Rattle.chain_reassemble_command.proofs.reassemble_command.Reads as reassemble-command
@@ -15,6 +12,7 @@ use Rattle.chain_fragment_response.proofs.fragment_response.Reads as fragment-r
 use Rattle.chain_fragment_response.proofs.fragment_response.Kinds as fragment-response-kinds
 use Rattle.chain_reassemble_response.proofs.reassemble_response.Reads as reassemble-response
 use Rattle.chain_reassemble_response.proofs.reassemble_response.Kinds as reassemble-response-kinds
+use Rattle.demand_calls.specs.Ran.{Ran}
 use Rattle.octets.specs.Bytes.{Bytes}
 use Rattle.message_answer.specs.Message.{StatusWord, status}
 use Rattle.chain_command.specs.Apdu.{Header, header}
@@ -28,36 +26,20 @@ use Rattle.chain_response.specs.declared.ResponseChain.{ResponseChain}
 use Rattle.chain_response.specs.declared.ResponseReassembly.{ResponseReassembly}
 
 -- fragment_command(ins, p1, p2, field, size, number, out)
-pub record FragmentsCommand : Type 0 where
-  pub κs : Lfts 2
-  pub args : Dens κs fragment-command-kinds.ps
-  pub result : FragmentAnswer
-  pub exit : AtExit (endedOf 2 fragment-command-kinds.ps fragment-command-kinds.r) κs
-  pub met : fragment-command.Learnt κs args result exit
+abbrev pub FragmentsCommand : Type 0
+FragmentsCommand = Ran 2 fragment-command-kinds.ps fragment-command-kinds.r FragmentAnswer fragment-command.Learnt
 
 -- reassemble_command(chain, apdu, out)
-pub record ReassemblesCommand : Type 0 where
-  pub κs : Lfts 2
-  pub args : Dens κs reassemble-command-kinds.ps
-  pub result : Reassembly
-  pub exit : AtExit (endedOf 2 reassemble-command-kinds.ps reassemble-command-kinds.r) κs
-  pub met : reassemble-command.Learnt κs args result exit
+abbrev pub ReassemblesCommand : Type 0
+ReassemblesCommand = Ran 2 reassemble-command-kinds.ps reassemble-command-kinds.r Reassembly reassemble-command.Learnt
 
 -- fragment_response(sw1, sw2, field, at, le, out)
-pub record FragmentsResponse : Type 0 where
-  pub κs : Lfts 2
-  pub args : Dens κs fragment-response-kinds.ps
-  pub result : ResponseFragmentAnswer
-  pub exit : AtExit (endedOf 2 fragment-response-kinds.ps fragment-response-kinds.r) κs
-  pub met : fragment-response.Learnt κs args result exit
+abbrev pub FragmentsResponse : Type 0
+FragmentsResponse = Ran 2 fragment-response-kinds.ps fragment-response-kinds.r ResponseFragmentAnswer fragment-response.Learnt
 
 -- reassemble_response(chain, bytes, out)
-pub record ReassemblesResponse : Type 0 where
-  pub κs : Lfts 2
-  pub args : Dens κs reassemble-response-kinds.ps
-  pub result : ResponseReassembly
-  pub exit : AtExit (endedOf 2 reassemble-response-kinds.ps reassemble-response-kinds.r) κs
-  pub met : reassemble-response.Learnt κs args result exit
+abbrev pub ReassemblesResponse : Type 0
+ReassemblesResponse = Ran 2 reassemble-response-kinds.ps reassemble-response-kinds.r ResponseReassembly reassemble-response.Learnt
 
 -- ---- the arguments, and the caller's buffer before and after
 

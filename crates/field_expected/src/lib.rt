@@ -2,6 +2,15 @@
 ghost use mathlib.Core.Path.{_≡_};
 ghost use Rattle.field_expected.specs.Wanted.{tagOf, needOf, may, rank, allowed};
 
+// The tags: encrypted data, Le, status word, MAC.
+pub const TAG_87: u8 = 0x87;
+
+pub const TAG_97: u8 = 0x97;
+
+pub const TAG_99: u8 = 0x99;
+
+pub const TAG_8E: u8 = 0x8E;
+
 // Whether an object must, may or must not be there.
 pub enum Need {
     Must,
@@ -26,8 +35,8 @@ pub fn second_tag(second: Second) -> u8
     ensures { λ r. ⌜ r ≡ tagOf second ⌝ }
 {
     match second {
-        Second::Le(_) => 0x97,
-        Second::Status(_, _) => 0x99,
+        Second::Le(_) => TAG_97,
+        Second::Status(_, _) => TAG_99,
     }
 }
 
@@ -54,13 +63,13 @@ fn may(need: Need) -> bool
 pub fn rank(second: Second, tag: u8) -> usize
     ensures { λ r. ⌜ r ≡ rank second tag ⌝ }
 {
-    if tag == 0x87 {
+    if tag == TAG_87 {
         return 1;
     }
     if tag == second_tag(second) {
         return 2;
     }
-    if tag == 0x8E {
+    if tag == TAG_8E {
         return 3;
     }
     0
@@ -75,10 +84,10 @@ pub fn allowed(wanted: Wanted, after: usize, tag: u8) -> bool
     if rank(second, tag) <= after {
         return false;
     }
-    if tag == 0x87 {
+    if tag == TAG_87 {
         return may(data);
     }
-    if tag == 0x8E {
+    if tag == TAG_8E {
         return true;
     }
     may(second_need(second))

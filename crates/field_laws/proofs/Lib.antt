@@ -5,3 +5,4 @@ pub mod ReadBack
 pub mod Shortest
 pub mod CoveredWritten
 pub mod AcceptedRules
+pub mod EncryptedBlocks

@@ -7,6 +7,7 @@ use lib.Dec.{eqb, ltb}
 use lib.ListN.{length, getD, take, drop}
 use Rattle.octets.specs.Bytes.{Bytes}
 use Rattle.octets.specs.Choice.{if_then_else_}
+use Rattle.field_expected.specs.Wanted.{tag87}
 use Rattle.field_ber_length.specs.Length.{readLength}
 use Rattle.field_ber_length.specs.declared.LengthRead.{LengthRead}
 use Rattle.field_ber_length.specs.declared.LengthRead.the-variants.{Length, BadForm}
@@ -26,10 +27,10 @@ endBehind BadForm = 0
 
 -- the encrypted data, if the first object is '87', and where that object ends
 unfoldable pub dataIn : Bytes → Bytes
-dataIn xs = if eqb (getD xs 0 0) 0x87 then dataBehind xs (readLength xs 1) else []
+dataIn xs = if eqb (getD xs 0 0) tag87 then dataBehind xs (readLength xs 1) else []
 
 unfoldable pub dataEnd : Bytes → ℕ
-dataEnd xs = if eqb (getD xs 0 0) 0x87 then endBehind (readLength xs 1) else 0
+dataEnd xs = if eqb (getD xs 0 0) tag87 then endBehind (readLength xs 1) else 0
 
 -- whether '97' or '99' stands behind it
 unfoldable pub secondIn : Bytes → Bool

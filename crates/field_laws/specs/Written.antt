@@ -5,7 +5,7 @@ use Prim.Native.Nat.{ℕ, _+_, _%_, _<_, _≤_}
 use lib.Dec.{ltb}
 use lib.ListN.{length}
 use Rattle.octets.specs.Bytes.{Bytes}
-use Rattle.field_expected.specs.Wanted.{needOf, suits}
+use Rattle.field_expected.specs.Wanted.{tag87, needOf, suits}
 use Rattle.field_object.specs.Values.{rightSize}
 use Rattle.field_read.specs.Field.{readField, ciphertextOf, coveredOf, macOf}
 use Rattle.field_expected.specs.declared.Wanted.{Wanted}
@@ -19,7 +19,7 @@ WholeBlocks limit c = (length c % 16 ≡ 0) × (length c ≤ limit)
 -- the reader wants encrypted data of that length, or none, and a second object, or none
 pub record Suits (w : Wanted) (ciphertext : Bytes) (there : Bool) : Type 0 where
   pub encrypted : suits (w .«data») (ltb 0 (length ciphertext)) ≡ true
-  pub size : 0 < length ciphertext → rightSize w 0x87 (length ciphertext + 1) ≡ true
+  pub size : 0 < length ciphertext → rightSize w tag87 (length ciphertext + 1) ≡ true
   pub short : length ciphertext < 65535
   pub second : suits (needOf (w .second)) there ≡ true
 

@@ -1,5 +1,7 @@
 // The length and the value that an object of a field must have (document 01, "Objects, encryption and MAC").
 use field_expected::Second;
+use field_expected::TAG_8E;
+use field_expected::TAG_87;
 use field_expected::Wanted;
 ghost use mathlib.Core.Path.{_≡_};
 ghost use Prim.Native.Nat.{_+_};
@@ -21,7 +23,7 @@ pub fn right_size(wanted: Wanted, tag: u8, n: usize) -> bool
 {
     let limit = wanted.limit;
     let second = wanted.second;
-    if tag == 0x87 {
+    if tag == TAG_87 {
         if n < 17 {
             return false;
         }
@@ -30,7 +32,7 @@ pub fn right_size(wanted: Wanted, tag: u8, n: usize) -> bool
         }
         return n - 1 <= limit;
     }
-    if tag == 0x8E {
+    if tag == TAG_8E {
         return n == 8;
     }
     n == second_size(second)
@@ -73,10 +75,10 @@ pub fn right_value(wanted: Wanted, tag: u8, bytes: &[u8], at: usize) -> bool
     ensures { λ r. ⌜ r ≡ rightValue wanted tag (now (bytes .entry)) at ⌝ }
 {
     let second = wanted.second;
-    if tag == 0x87 {
+    if tag == TAG_87 {
         return byte_at(bytes, at) == 1;
     }
-    if tag == 0x8E {
+    if tag == TAG_8E {
         return true;
     }
     right_second(second, bytes, at)

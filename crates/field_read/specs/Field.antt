@@ -1,11 +1,11 @@
--- Document 01, "Objects, encryption and MAC": a whole field, read from left to right. Assumes nothing.
+-- Document 01, "Objects, encryption and MAC": a whole field, read from left to right.
 use mathlib.Core.Bool.{true, false}
 use Prim.Native.Nat.{ℕ, zero, suc, _+_, _-_}
 use lib.Dec.{eqb, ltb}
 use lib.ListN.{length, take, drop}
 use Rattle.octets.specs.Bytes.{Bytes}
 use Rattle.octets.specs.Choice.{if_then_else_}
-use Rattle.field_expected.specs.Wanted.{lacks, tagOf, needOf, rank}
+use Rattle.field_expected.specs.Wanted.{tag87, tag8E, lacks, tagOf, needOf, rank}
 use Rattle.field_object.specs.Object.{breach, readObject}
 use Rattle.field_expected.specs.declared.Wanted.{Wanted}
 use Rattle.field_object.specs.declared.Rule.the-variants.{Tag}
@@ -23,9 +23,9 @@ none = record { ciphertext = 0; «ciphertext_len» = 0; second = false; «mac_st
 -- one object more
 unfoldable pub noted : Objects → DataObject → Objects
 noted o d =
-    if eqb (d .tag) 0x87 then
+    if eqb (d .tag) tag87 then
     record { ciphertext = d .value + 1; «ciphertext_len» = d .len - 1; second = o .second; «mac_start» = o .«mac_start»; mac = o .mac } else
-    if eqb (d .tag) 0x8E then
+    if eqb (d .tag) tag8E then
     record { ciphertext = o .ciphertext; «ciphertext_len» = o .«ciphertext_len»; second = o .second; «mac_start» = d .start; mac = d .value } else
     record { ciphertext = o .ciphertext; «ciphertext_len» = o .«ciphertext_len»; second = true; «mac_start» = o .«mac_start»; mac = o .mac }
 
@@ -37,9 +37,9 @@ refused (Object d) = BadField (breach Tag (d .tag) (d .start))
 -- at the end, after an object at place r: the first object that must be there and isn't, in the list's order, or the objects
 unfoldable pub ended : Wanted → Objects → ℕ → ℕ → FieldRead
 ended w o r end =
-    if lacks (w .«data») (ltb 0 (o .«ciphertext_len»)) then Missing 0x87 end else
+    if lacks (w .«data») (ltb 0 (o .«ciphertext_len»)) then Missing tag87 end else
     if lacks (needOf (w .second)) (o .second) then Missing (tagOf (w .second)) end else
-    if ltb r 3 then Missing 0x8E end else Read o
+    if ltb r 3 then Missing tag8E end else Read o
 
 -- what an object leads to, by the walk from it on
 unfoldable pub onObject : ObjectRead → (DataObject → FieldRead) → FieldRead

@@ -3,6 +3,8 @@
 mod reader;
 
 use field_expected::Need;
+use field_expected::TAG_8E;
+use field_expected::TAG_87;
 use field_expected::Wanted;
 use field_expected::rank;
 use field_expected::second_need;
@@ -70,7 +72,7 @@ fn noted(objects: Objects, object: DataObject) -> Objects
     requires { ⌜ (1 ≤ object .len) × (object .value + object .len ≡ object .next) ⌝ }
     ensures { λ r. ⌜ r ≡ noted objects object ⌝ }
 {
-    if object.tag == 0x87 {
+    if object.tag == TAG_87 {
         return Objects {
             ciphertext: object.value + 1,
             ciphertext_len: object.len - 1,
@@ -79,7 +81,7 @@ fn noted(objects: Objects, object: DataObject) -> Objects
             mac: objects.mac,
         };
     }
-    if object.tag == 0x8E {
+    if object.tag == TAG_8E {
         return Objects {
             ciphertext: objects.ciphertext,
             ciphertext_len: objects.ciphertext_len,
@@ -128,13 +130,13 @@ fn ended(wanted: Wanted, objects: Objects, after: usize, end: usize) -> FieldRea
     let data = wanted.data;
     let second = wanted.second;
     if lacks(data, 0 < objects.ciphertext_len) {
-        return FieldRead::Missing(0x87, end);
+        return FieldRead::Missing(TAG_87, end);
     }
     if lacks(second_need(second), objects.second) {
         return FieldRead::Missing(second_tag(second), end);
     }
     if after < 3 {
-        return FieldRead::Missing(0x8E, end);
+        return FieldRead::Missing(TAG_8E, end);
     }
     FieldRead::Read(objects)
 }

@@ -1,9 +1,11 @@
--- How long the encrypted data and its object are at most: for the sums of the lengths, and for the calls that check the room.
--- Assumes nothing.
+-- How long the encrypted data and its object are at most, and when there is any: for the sums of the lengths, and for the calls that check the
+-- room.
+use mathlib.Core.Path.{_≡_, refl, sym, _∙_}
 use mathlib.Core.Bool.{Bool, true, false}
 use Prim.Native.Nat.{ℕ, _+_, _*_, _/_, _<_, _≤_}
 use native.Mathlib.Omega.{arith}
-use lib.Dec.{eqb}
+use borrow.Author.Tests.{lt-ltb, le-ltb, eqb-true, eqb-false}
+use lib.Dec.{eqb, ltb}
 use lib.ListN.{length}
 use Rattle.octets.specs.Choice.{if_then_else_}
 use Rattle.field_padding.specs.Padding.{paddedLength}
@@ -26,3 +28,14 @@ ciphertext-most p h = go (eqb p 0)
     go : (t : Bool) → (if t then 0 else 16 * (p / 16 + 1)) ≤ 65536
     go true = omega arith
     go false = omega arith
+
+-- there is encrypted data exactly where there is data
+pub some-encrypted : (p : ℕ) → ltb 0 (ciphertextLength p) ≡ ltb 0 p
+unfolding ciphertextLength paddedLength
+some-encrypted p = go (eqb p 0) refl
+  where
+    go : (t : Bool) → eqb p 0 ≡ t → ltb 0 (if t then 0 else 16 * (p / 16 + 1)) ≡ ltb 0 p
+    go true e = sym (le-ltb 0 p (omega (arith, eqb-true p 0 e)))
+    go false e =
+        let f : p ≡ 0 → ⊥ = eqb-false p 0 e in
+        lt-ltb 0 (16 * (p / 16 + 1)) (omega arith) ∙ sym (lt-ltb 0 p (omega (arith, f)))

@@ -1,2 +1,3 @@
 pub mod Required
+pub mod Among
 pub mod Refusals

@@ -1,62 +1,26 @@
--- Document 01, "The numbered answers": a call's answer, and the session that it leaves. Assumes nothing.
-use mathlib.Core.Bool.{Bool, _||_}
-use lib.Dec.{eqb}
-use Rattle.octets.specs.Bytes.{Bytes}
-use Rattle.octets.specs.Choice.{if_then_else_}
-use Rattle.octets.specs.Write.{over}
-use Rattle.refusal.specs.Refusal.{number}
+-- What a call with a PIV session gives and leaves: the definitions of Outcome.antt, of this session and its closing.
 use Rattle.refusal.specs.declared.Refusal.{Refusal}
-use Rattle.refusal.specs.declared.Refusal.the-variants.{BadMac, BadPadding}
 use Rattle.session.specs.Session.{closed}
 use Rattle.session.specs.declared.Session.{Session}
+use Rattle.message_answer.specs.Outcome as any
+pub use Rattle.message_answer.specs.Outcome.{Answer, refused, gave}
+unfoldable pub use Rattle.message_answer.specs.Outcome.{require_else_⨾_, _and-then_, buffer}
 
-infixr 2 require_else_⨾_ _and-then_
-pub data Answer (A : Type 0) : Type 0 where
-  refused : Refusal → Answer A
-  gave : A → Answer A
+abbrev pub Outcome : Type 0 → Type 0
+Outcome A = any.Outcome Session A
 
--- the first refusal that applies: one test, one refusal, one line
-unfoldable pub require_else_⨾_ : {A : Type 0} → Bool → Refusal → Answer A → Answer A
-require ok else r ⨾ rest = if ok then rest else refused r
+abbrev pub Out : Type 0 → Type 0
+Out A = any.Out Session A
 
--- one stage after another
-unfoldable pub _and-then_ : {A B : Type 0} → Answer A → (A → Answer B) → Answer B
-refused r and-then more = refused r
-gave a and-then more = more a
+abbrev pub afterRefusal : Session → Refusal → Session
+afterRefusal s r = any.afterRefusal closed s r
 
--- what a call gives, and the next session
-pub record Outcome (A : Type 0) : Type 0 where
-  pub gives : A
-  pub next : Session
-
-pub record Out (A : Type 0) : Type 0 where
-  pub answer : Answer A
-  pub next : Session
-
--- whether two refusals are the same, whatever they give beside their number
-abbrev pub is : Refusal → Refusal → Bool
-is r s = eqb (number r) (number s)
-
--- a wrong MAC and wrong padding
-abbrev pub closes : Refusal → Bool
-closes r = is r BadMac || is r BadPadding
-
--- they close the session; every other refusal keeps it as it was
-unfoldable pub afterRefusal : Session → Refusal → Session
-afterRefusal s r = if closes r then closed s else s
-
--- a call that is refused, and one that is not
 abbrev pub notGiven : {A : Type 0} → Session → Refusal → Out A
-notGiven s r = record { answer = refused r; next = afterRefusal s r }
+notGiven s r = any.notGiven closed s r
 
 abbrev pub given : {A : Type 0} → Outcome A → Out A
-given o = record { answer = gave (o .gives); next = o .next }
+given o = any.given o
 
 unfoldable pub concluded : {A : Type 0} → Session → Answer (Outcome A) → Out A
-concluded s (refused r) = notGiven s r
-concluded s (gave o) = given o
-
--- the caller's buffer, which held some bytes: at a refusal it stays; else what the call writes stands over its start
-unfoldable pub buffer : {A : Type 0} → (A → Bytes) → Bytes → Answer A → Bytes
-buffer writes held (refused r) = held
-buffer writes held (gave a) = over held (writes a)
+unfolding any.concluded
+concluded s a = any.concluded closed s a

@@ -1,4 +1,4 @@
--- Commands and responses: what stands in the clear, and the data. Assumes nothing.
+-- Commands and responses: what stands in the clear, and the data.
 use mathlib.Core.Bool.{Bool}
 use Prim.Native.Nat.{ℕ}
 use Rattle.octets.specs.Bytes.{Bytes}
@@ -35,7 +35,7 @@ pub record CommandGiven : Type 0 where
   pub payload : Bytes
   pub le : Bool
 
--- ---- the limits
+-- ---- the limits; src/lib.rt has each as a constant of the same name, but for the last, which is the session's own
 
 abbrev pub maxCommandData : ℕ
 maxCommandData = 2047
@@ -60,3 +60,8 @@ maxResponseCiphertext = 16384
 -- commands in a session
 abbrev pub commandLimit : ℕ
 commandLimit = 65535
+
+-- ---- SW1 of "more bytes are available"
+
+abbrev pub moreSw1 : ℕ
+moreSw1 = 0x61

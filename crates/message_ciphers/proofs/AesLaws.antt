@@ -72,6 +72,10 @@ mac-length : (k m : Bytes) → length (cmac (ciph k) m) ≡ 16
 unfolding ciph aes
 mac-length k m = length-cmac (ciph k) (λ x. length-ciph (sizeOf k) (schedule (sizeOf k) k) x) m
 
+pub aes-mac-length : (k m : Bytes) → length (aesCiphers .mac k m) ≡ 16
+unfolding aesCiphers
+aes-mac-length k m = mac-length k m
+
 pub aes-laws : Laws aesCiphers
 unfolding aesCiphers
 aes-laws = record { mac-length = λ k m key. mac-length k m; encrypt-length = encrypted-length; decrypt-encrypt = decrypted }

@@ -1,3 +1,4 @@
-pub mod ByteLists
 pub mod PaddedData
 pub mod AesLaws
+pub mod ToyLaws
+pub mod CounterIv

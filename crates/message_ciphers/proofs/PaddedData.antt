@@ -12,7 +12,7 @@ use Rattle.field_padding.specs.Padding.{padding, pad, paddedLength, unpad}
 use Rattle.field_padding.proofs.Lengths.{length-pad}
 use Rattle.field_padding.proofs.Unpadding.{unpad-pad}
 use Rattle.message_ciphers.specs.Aes.{dataIn}
-use Rattle.message_ciphers.proofs.ByteLists.{bytes-append, bytes-cons, bytes-zeros}
+use Rattle.octets.proofs.ByteStrings.{bytes-append, bytes-cons, bytes-zeros}
 
 module _ (d : Bytes) where
   pub padded-whole : length (pad d) % 16 ≡ 0

@@ -1,13 +1,9 @@
--- SP 800-73-4 Part 2, 4.2.2: the encryption counter, 16 bytes. Assumes nothing.
-use mathlib.Core.List.{[], _∷_, _++_}
-use Prim.Native.Nat.{ℕ, zero, suc, _/_, _%_}
+-- SP 800-73-4 Part 2, 4.2.2: the encryption counter, 16 bytes.
+use mathlib.Core.List.{_∷_}
+use Prim.Native.Nat.{ℕ}
 use lib.ListN.{drop}
 use Rattle.octets.specs.Bytes.{Bytes}
-
--- a number in that many bytes, the highest first
-unfoldable pub bigEndian : ℕ → ℕ → Bytes
-bigEndian zero n = []
-bigEndian (suc size) n = bigEndian size (n / 256) ++ n % 256 ∷ []
+use Rattle.octets_numbers.specs.BigEndian.{bigEndian}
 
 -- command number i uses i
 unfoldable pub commandCounter : ℕ → Bytes

@@ -6,8 +6,7 @@ use mode_cmac::Cmac;
 use octets::put_bytes;
 use session_suite::Suite;
 ghost use mathlib.Core.Path.{_≡_};
-ghost use Prim.Native.Nat.{_+_, _≤_};
-ghost use lib.ListN.{length, take, drop};
+ghost use lib.ListN.{length, take};
 ghost use Rattle.message_mac.specs.MacInput.{encodedHeader, responseMacInput, commandMacInput};
 ghost use Rattle.message_mac.specs.Same.{same};
 ghost use Rattle.session_suite.specs.StoredKeys.{keyIn};
@@ -62,15 +61,15 @@ pub fn truncated(full: [u8; 16]) -> [u8; 8]
     mac
 }
 
-// Whether the eight bytes from index `at` on are the MAC. All eight are looked at, whatever the first of them are.
-pub fn mac_matches(bytes: &[u8], at: usize, mac: [u8; 8]) -> bool
-    requires { ⌜ at + 8 ≤ length (now bytes) ⌝ }
-    ensures { λ r. ⌜ r ≡ same (take 8 (drop at (now (bytes .entry)))) mac ⌝ }
+// Whether the eight bytes received are the MAC. All eight are looked at, whatever the first of them are.
+pub fn mac_matches(received: &[u8], mac: [u8; 8]) -> bool
+    requires { ⌜ length (now received) ≡ 8 ⌝ }
+    ensures { λ r. ⌜ r ≡ same (now (received .entry)) mac ⌝ }
 {
     let mut differ: u8 = 0;
     let mut i: usize = 0;
     while i < 8 {
-        differ = differ | (bytes[at + i] ^ mac[i]);
+        differ = differ | (received[i] ^ mac[i]);
         i += 1;
     }
     differ == 0

@@ -9,7 +9,7 @@ use Rattle.field_expected.specs.declared.Need.the-variants.{Must, May, MustNot}
 use Rattle.field_expected.specs.declared.Second.the-variants.{Le, Status}
 use Rattle.field_expected.specs.declared.Wanted.{Wanted}
 use Rattle.field_expected.specs.Wanted.{suits}
-use Rattle.message_answer.specs.Message.{CommandHeader, StatusWord, maxCommandCiphertext, maxResponseCiphertext}
+use Rattle.message_answer.specs.Message.{CommandHeader, StatusWord, maxCommandCiphertext, maxResponseCiphertext, moreSw1}
 
 -- INS of VERIFY, CHANGE REFERENCE DATA, GET DATA and GENERAL AUTHENTICATE
 abbrev pub verify : ℕ
@@ -41,7 +41,7 @@ commandPermitted h n = insPermitted (h .ins) && suits (dataNeed (h .ins)) (ltb 0
 
 -- a card may neither wrap nor fragment a response with SW1 '61'
 unfoldable pub statusPermitted : StatusWord → Bool
-statusPermitted sw = not (eqb (sw .sw1) 0x61)
+statusPermitted sw = not (eqb (sw .sw1) moreSw1)
 
 -- what the fields are read for
 unfoldable pub commandWanted : ℕ → Wanted

@@ -2,6 +2,9 @@
 use field_expected::Need;
 use field_expected::Second;
 use field_expected::Wanted;
+use message_answer::MAX_COMMAND_CIPHERTEXT;
+use message_answer::MAX_RESPONSE_CIPHERTEXT;
+use message_answer::MORE_SW1;
 ghost use mathlib.Core.Path.{_≡_};
 ghost use Prim.Native.Nat.{_<_};
 ghost use Rattle.message_answer.specs.Message.{status, header};
@@ -15,11 +18,6 @@ const CHANGE_REFERENCE_DATA: u8 = 0x24;
 const GET_DATA: u8 = 0xCB;
 
 const GENERAL_AUTHENTICATE: u8 = 0x87;
-
-// The most encrypted data in a field that is read.
-const MAX_COMMAND_CIPHERTEXT: usize = 2048;
-
-const MAX_RESPONSE_CIPHERTEXT: usize = 16384;
 
 pub fn ins_permitted(ins: u8) -> bool
     ensures { λ r. ⌜ r ≡ insPermitted ins ⌝ }
@@ -86,7 +84,7 @@ pub fn command_permitted(ins: u8, p1: u8, p2: u8, le: bool, n: usize) -> bool
 pub fn status_permitted(sw1: u8, sw2: u8) -> bool
     ensures { λ r. ⌜ r ≡ statusPermitted (status sw1 sw2) ⌝ }
 {
-    sw1 != 0x61
+    sw1 != MORE_SW1
 }
 
 // What a command's field is read for.

@@ -32,9 +32,12 @@ use Rattle.refusal.specs.Refusal.{number, extra}
 use Rattle.message_ciphers.specs.Ciphers.{Ciphers}
 use Rattle.message_answer.specs.Message.{CommandHeader, StatusWord, Response, CommandGiven}
 use Rattle.message_permission.specs.Permission.{insPermitted, leNeed, dataNeed, commandPermitted, statusPermitted, commandWanted, responseWanted}
-use Rattle.message_counter.specs.Counter.{bigEndian, commandCounter, responseCounter}
-use Rattle.message_answer.specs.Answer.{Answer, refused, gave, Out, require_else_⨾_, _and-then_, afterRefusal, concluded}
-use Rattle.message_protocol.specs.Reading.{objectsOf, textOf}
+use Rattle.octets_numbers.specs.BigEndian.{bigEndian}
+use Rattle.message_counter.specs.Counter.{commandCounter, responseCounter}
+use Rattle.message_answer.specs.Answer.{Answer, refused, gave, Out, require_else_⨾_, _and-then_, concluded}
+use Rattle.message_answer.specs.Outcome.{afterRefusal}
+use Rattle.message_verify.specs.Reading.{objectsOf, textOf}
+use Rattle.message_verify.specs.VerifiedText.{verifiedText}
 use Rattle.message_protocol.specs.Command.{commandInput, wrapCommandChecks, unwrapCommandChecks, commandMac, commandAccepted, openCommand, cardUnwraps}
 use Rattle.message_protocol.specs.Response.{wrapResponseChecks, unwrapResponseChecks, responseMac, responseAccepted, openResponse, hostUnwraps}
 
@@ -143,7 +146,7 @@ record Answered : Type 0 where
   x10-left : phaseOf (host (reply 0) 16 .next) ≡ 0 ∷ 0 ∷ []
 
 answered : Answered
-unfolding numbers at head bad sw field reply phaseOf card host same padding pad paddedLength marked markBefore unpad lengthField readLength isShortest rank allowed rightSize rightSecond rightValue need_else_⨾_ withLength readObject notedObject ended onObject walk readField object encryptedData leObject statusWord macObject commandObjects responseObjects commandField responseField ciphertextLength encryptedDataLength commandLength responseLength encodedHeader commandMacInput responseMacInput allZero keysEnd keysZero mcvsZero keepsPhase valid countsAsOpen isTurn insPermitted leNeed dataNeed commandPermitted statusPermitted commandWanted responseWanted bigEndian commandCounter responseCounter require_else_⨾_ _and-then_ afterRefusal concluded objectsOf textOf commandInput wrapCommandChecks unwrapCommandChecks commandMac commandAccepted openCommand cardUnwraps wrapResponseChecks unwrapResponseChecks responseMac responseAccepted openResponse hostUnwraps
+unfolding numbers at head bad sw field reply phaseOf card host same padding pad paddedLength marked markBefore unpad lengthField readLength isShortest rank allowed rightSize rightSecond rightValue need_else_⨾_ withLength readObject notedObject ended onObject walk readField object encryptedData leObject statusWord macObject commandObjects responseObjects commandField responseField ciphertextLength encryptedDataLength commandLength responseLength encodedHeader commandMacInput responseMacInput allZero keysEnd keysZero mcvsZero keepsPhase valid countsAsOpen isTurn insPermitted leNeed dataNeed commandPermitted statusPermitted commandWanted responseWanted bigEndian commandCounter responseCounter require_else_⨾_ _and-then_ afterRefusal concluded objectsOf textOf verifiedText commandInput wrapCommandChecks unwrapCommandChecks commandMac commandAccepted openCommand cardUnwraps wrapResponseChecks unwrapResponseChecks responseMac responseAccepted openResponse hostUnwraps
 answered =
     record {
       counter-1 = refl;

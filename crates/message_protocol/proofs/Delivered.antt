@@ -1,12 +1,11 @@
 -- Demand 2, proved: the tests pass, the field is read back, its MAC is right, and its text is what was encrypted.
--- Assumes nothing.
 use mathlib.Core.Path.{_≡_, refl, sym, ap, ap₂, _∙_, subst}
 use mathlib.Core.Bool.{Bool, true, false, _&&_}
 use mathlib.Core.List.{[]}
 use mathlib.Core.Option.{some}
 use Prim.Native.Nat.{ℕ, _+_, _*_, _/_, _<_, _≤_}
 use native.Mathlib.Omega.{arith}
-use borrow.Author.Tests.{lt-ltb, le-ltb, le-leb, eqb-true, eqb-false}
+use borrow.Author.Tests.{lt-ltb, le-leb}
 use lib.Dec.{eqb, ltb}
 use lib.ListN.{length, take}
 use lib.Seq.{length-take-le}
@@ -14,30 +13,28 @@ use Rattle.octets.proofs.Tests.{both}
 use Rattle.octets.specs.Bytes.{Bytes, IsBytes}
 use Rattle.octets.specs.Choice.{if_then_else_}
 use Rattle.field_padding.specs.Padding.{paddedLength}
-use Rattle.message_mac.proofs.SameBytes.{same-self}
 use Rattle.field_read.specs.Field.{ciphertextOf, coveredOf}
 use Rattle.field_read.specs.declared.Objects.{Objects}
 use Rattle.field_write.specs.Objects.{commandObjects, responseObjects, commandField, responseField}
 use Rattle.message_mac.specs.MacInput.{responseMacInput}
 use Rattle.field_size.specs.Lengths.{ciphertextLength, encryptedDataLength, commandLength, responseLength}
-use Rattle.field_size.proofs.LengthBounds.{data-most}
+use Rattle.field_size.proofs.LengthBounds.{data-most, some-encrypted}
 use Rattle.field_write.proofs.FieldLengths.{length-commandField, length-responseField}
 use Rattle.field_expected.specs.Wanted.{suits}
 use Rattle.field_laws.specs.Written.{Suits, WholeBlocks, ReadsBack}
+use Rattle.field_laws.proofs.EncryptedBlocks.{encrypted-blocks}
 use Rattle.field_laws.proofs.CoveredWritten.{right-size}
 use Rattle.field_laws.proofs.ReadBack.{read-command, read-response}
-use Rattle.refusal.specs.declared.Refusal.{Refusal}
 use Rattle.session.specs.Session.{fresh}
-use Rattle.session_suite.specs.StoredKeys.{Keys, keysFit, stored, keyIn}
+use Rattle.session_suite.specs.StoredKeys.{stored, keyIn}
+use Rattle.session_suite.proofs.StoredKeys.{one-suite}
 use Rattle.session_turn.specs.Transitions.{commandTaken, responseTaken}
-use Rattle.session_turn.specs.Turn.{sameSide, samePhase, isTurn}
+use Rattle.session_turn.specs.Turn.{isTurn}
+use Rattle.session_turn.proofs.InTurn.{own-turn}
 use Rattle.session.specs.declared.Side.{Side}
 use Rattle.session.specs.declared.Side.the-variants.{Host, Card}
 use Rattle.session.specs.declared.Phase.{Phase}
-use Rattle.session.specs.declared.Phase.the-variants.{Ready, Pending, Closed}
-use Rattle.session_suite.specs.Suites.{keyLength}
-use Rattle.session_suite.specs.declared.Suite.{Suite}
-use Rattle.session_suite.specs.declared.Suite.the-variants.{Cs2, Cs7}
+use Rattle.session.specs.declared.Phase.the-variants.{Ready, Pending}
 use Rattle.session.specs.declared.Session.{Session}
 use Rattle.message_ciphers.specs.Ciphers.{Ciphers, Laws, IsKey}
 use Rattle.message_ciphers.specs.Aes.{aesCiphers}
@@ -45,40 +42,19 @@ use Rattle.message_answer.specs.Message.{CommandHeader, Command, Response, maxC
 use Rattle.message_permission.specs.Permission.{insPermitted, dataNeed, leNeed, commandPermitted, statusPermitted, commandWanted, responseWanted}
 use Rattle.message_counter.specs.Counter.{commandCounter, responseCounter}
 use Rattle.message_answer.specs.Answer.{Answer, gave, require_else_⨾_, _and-then_, concluded}
-use Rattle.message_protocol.specs.Reading.{objectsOf, textOf}
+use Rattle.message_answer.proofs.Required.{pass}
+use Rattle.message_verify.specs.Reading.{objectsOf}
+use Rattle.message_verify.specs.VerifiedText.{receivedIn, verifiedText}
+use Rattle.message_verify.proofs.Stages.{gave-verified}
 use Rattle.message_protocol.specs.Command.{wrapCommandChecks, unwrapCommandChecks, commandInput, commandMac, commandCiphertext, commandWrapped, commandAccepted, headerRead, hostWraps, openCommand, cardUnwraps}
 use Rattle.message_protocol.specs.Response.{wrapResponseChecks, unwrapResponseChecks, responseMac, responseCiphertext, responseWrapped, responseAccepted, cardWraps, openResponse, hostUnwraps}
 use Rattle.message_protocol.specs.HonestDelivery.{InStep, Keyed, CommandDelivered, DeliversCommands, ResponseDelivered, DeliversResponses, OpensInStep}
 use Rattle.session_rules.proofs.KeepsTheRules.{opening-served, command-served, response-served}
-use Rattle.message_protocol.proofs.Channel.{command-lawful, response-lawful}
+use Rattle.message_protocol.proofs.Directions.{command-counter-is, response-counter-is}
 use Rattle.message_protocol.proofs.Invariant.{AreKeys, Live}
 use Rattle.message_protocol.proofs.Runs.{Fresh, opened, are-keys, fresh-live}
 
-pass : {A : Type 0} (ok : Bool) (r : Refusal) (rest a : Answer A) → ok ≡ true → rest ≡ a → (require ok else r ⨾ rest) ≡ a
-unfolding require_else_⨾_
-pass ok r rest a e f = rw e f
-
 -- ---- lengths
-
--- encrypted data is whole blocks, up to a block more than the data
-encrypted-blocks : (limit n : ℕ) (c : Bytes) → length c ≡ ciphertextLength n → n < 16 * limit → WholeBlocks (16 * limit) c
-unfolding ciphertextLength paddedLength
-encrypted-blocks limit n c e h = go (eqb n 0) e
-  where
-    go : (t : Bool) → length c ≡ (if t then 0 else 16 * (n / 16 + 1)) → WholeBlocks (16 * limit) c
-    go true e = (omega (arith, e), omega (arith, e))
-    go false e = (omega (arith, e), omega (arith, e))
-
--- there is encrypted data exactly where there is data
-some-encrypted : (n : ℕ) → ltb 0 (ciphertextLength n) ≡ ltb 0 n
-unfolding ciphertextLength paddedLength
-some-encrypted n = go (eqb n 0) refl
-  where
-    go : (t : Bool) → eqb n 0 ≡ t → ltb 0 (if t then 0 else 16 * (n / 16 + 1)) ≡ ltb 0 n
-    go true e = sym (le-ltb 0 n (omega (arith, eqb-true n 0 e)))
-    go false e =
-        let f : n ≡ 0 → ⊥ = eqb-false n 0 e in
-        lt-ltb 0 (16 * (n / 16 + 1)) (omega arith) ∙ sym (lt-ltb 0 n (omega (arith, f)))
 
 pub command-short : (n : ℕ) (le : Bool) → n ≤ 2047 → commandLength n le ≤ 2066
 unfolding commandLength ciphertextLength paddedLength
@@ -106,17 +82,8 @@ pub response-least : (n : ℕ) → 14 ≤ responseLength n
 unfolding responseLength
 response-least n = omega arith
 
-turn : (side : Side) (phase : Phase) (s : Session) → s .side ≡ side → s .phase ≡ phase → isTurn side phase s ≡ true
-unfolding isTurn
-turn side phase s e f = rw (e, f) (go side phase)
-  where
-    go : (side : Side) (phase : Phase) → (sameSide side side && samePhase phase phase) ≡ true
-    go Host Ready = refl
-    go Host Pending = refl
-    go Host Closed = refl
-    go Card Ready = refl
-    go Card Pending = refl
-    go Card Closed = refl
+turn : (side : Side) (phase : Phase) (s : Session) → s .side ≡ side → s .phase ≡ phase → isTurn side phase (s .side) (s .phase) ≡ true
+turn side phase s e f = rw (e, f) (own-turn side phase)
 
 -- ---- a command
 
@@ -162,11 +129,13 @@ module _ (C : Ciphers) (L : Laws C) (h c : Session) (m : Command) (wrapRoom unwr
   unfolding commandCiphertext
   size =
       L .encrypt-length (keyIn (h .suite) (h .«sk_enc»)) (commandCounter (h .count + 1)) (m .payload) (keyed .enc)
-      (command-lawful (record { enc = []; mac = []; rmac = [] }) .counter-is (h .count + 1)) bytes
+      (command-counter-is (h .count + 1)) bytes
 
   mac-size : length (take 8 full) ≡ 8
   unfolding commandMac
-  mac-size = length-take-le 8 full (omega (arith, L .mac-length (keyIn (h .suite) (h .«sk_mac»)) (commandInput (h .«command_mcv») (m .header) (commandObjects x (m .header .le))) (keyed .mac)))
+  mac-size =
+      let maced = commandInput (h .«command_mcv») (m .header) (commandObjects x (m .header .le)) in
+      length-take-le 8 full (omega (arith, L .mac-length (keyIn (h .suite) (h .«sk_mac»)) maced (keyed .mac)))
 
   suitable : Suits (commandWanted (m .header .ins)) x (m .header .le)
   unfolding commandWanted
@@ -190,7 +159,8 @@ module _ (C : Ciphers) (L : Laws C) (h c : Session) (m : Command) (wrapRoom unwr
   unfolding unwrapCommandChecks
   unwrap-checks =
       pass _ _ _ _ (step .card-open) (pass _ _ _ _ (turn Card Ready c (step .card-side) (step .card-phase)) (pass _ _ _ _ ins-permitted
-      (pass _ _ _ _ (le-leb (length field) 2066 (omega (arith, length-commandField x n size (take 8 full) mac-size (m .header .le), command-short n (m .header .le) fits)))
+      (pass _ _ _ _ (le-leb (length field) 2066
+      (omega (arith, length-commandField x n size (take 8 full) mac-size (m .header .le), command-short n (m .header .le) fits)))
       (pass _ _ _ _ (lt-ltb (c .count) commandLimit (omega (arith, step .counts, counted))) refl))))
 
   header-same : headerRead (m .header .ins) (m .header .p1) (m .header .p2) o ≡ m .header
@@ -199,8 +169,10 @@ module _ (C : Ciphers) (L : Laws C) (h c : Session) (m : Command) (wrapRoom unwr
   mac-same : commandMac C c (headerRead (m .header .ins) (m .header .p1) (m .header .p2) o) (coveredOf field o) ≡ full
   unfolding commandMac
   mac-same =
-      ap₂ (λ (head : CommandHeader) (covered : Bytes). C .mac (keyIn (c .suite) (c .«sk_mac»)) (commandInput (c .«command_mcv») head covered)) header-same (back .covers)
-      ∙ ap₂ (λ (k mcv : Bytes). C .mac k (commandInput mcv (m .header) (commandObjects x (m .header .le)))) (ap₂ keyIn (step .suites) (step .macs)) (step .command-mcvs)
+      ap₂ (λ (head : CommandHeader) (covered : Bytes). C .mac (keyIn (c .suite) (c .«sk_mac»)) (commandInput (c .«command_mcv») head covered))
+      header-same (back .covers)
+      ∙ ap₂ (λ (k mcv : Bytes). C .mac k (commandInput mcv (m .header) (commandObjects x (m .header .le))))
+      (ap₂ keyIn (step .suites) (step .macs)) (step .command-mcvs)
 
   text-same : C .decrypt (keyIn (c .suite) (c .«sk_enc»)) (commandCounter (c .count + 1)) (ciphertextOf field o) ≡ some (m .payload)
   unfolding commandCiphertext
@@ -208,22 +180,18 @@ module _ (C : Ciphers) (L : Laws C) (h c : Session) (m : Command) (wrapRoom unwr
       ap₂ (λ (k : Bytes) (i : ℕ). C .decrypt k (commandCounter (i + 1)) (ciphertextOf field o)) (ap₂ keyIn (step .suites) (step .encs)) (step .counts)
       ∙ ap (C .decrypt (keyIn (h .suite) (h .«sk_enc»)) (commandCounter (h .count + 1))) (back .encrypted)
       ∙ L .decrypt-encrypt (keyIn (h .suite) (h .«sk_enc»)) (commandCounter (h .count + 1)) (m .payload) (keyed .enc)
-      (command-lawful (record { enc = []; mac = []; rmac = [] }) .counter-is (h .count + 1)) bytes
+      (command-counter-is (h .count + 1)) bytes
+
+  text-given : verifiedText C (keyIn (c .suite) (c .«sk_enc»)) (commandCounter (c .count + 1))
+      (commandMac C c (headerRead (m .header .ins) (m .header .p1) (m .header .p2) o) (coveredOf field o)) (receivedIn field o) unwrapRoom ≡ gave (m .payload)
+  text-given =
+      gave-verified C _ _ _ _ unwrapRoom (m .payload)
+      (record { fits = omega (arith, ap length (back .encrypted), size, unwrapFits); right = back .tag ∙ ap (take 8) (sym mac-same); text = text-same })
 
   unwraps : cardUnwraps C c (m .header .ins) (m .header .p1) (m .header .p2) field unwrapRoom
       ≡ record { answer = gave (record { payload = m .payload; le = m .header .le }); next = commandTaken c full }
-  unfolding openCommand cardUnwraps commandAccepted concluded _and-then_ objectsOf textOf require_else_⨾_
-  unwraps =
-      rw (
-        unwrap-checks,
-        back .accepted,
-        le-leb (o .«ciphertext_len») unwrapRoom (omega (arith, back .size, size, unwrapFits)),
-        mac-same,
-        back .tag,
-        same-self (take 8 full),
-        text-same,
-        back .second,
-      )
+  unfolding openCommand cardUnwraps commandAccepted concluded _and-then_ objectsOf
+  unwraps = rw (unwrap-checks, back .accepted, text-given, mac-same, back .second)
 
   command-delivered : CommandDelivered C h c m wrapRoom unwrapRoom
   command-delivered =
@@ -293,19 +261,21 @@ module _ (C : Ciphers) (L : Laws C) (h c : Session) (m : Response) (wrapRoom unw
   response-size =
       ap length response-encrypted
       ∙ L .encrypt-length (keyIn (h .suite) (h .«sk_enc»)) (responseCounter (h .count)) (m .payload) (keyed .enc)
-      (response-lawful (record { enc = []; mac = []; rmac = [] }) .counter-is (h .count)) bytes
+      (response-counter-is (h .count)) bytes
 
   whole-is : whole ≡ C .mac (keyIn (h .suite) (h .«sk_rmac»)) (responseMacInput (h .«response_mcv») (responseObjects y (m .header .sw1) (m .header .sw2)))
   unfolding responseMac
   whole-is =
-      ap₂ (λ (k mcv : Bytes). C .mac k (responseMacInput mcv (responseObjects y (m .header .sw1) (m .header .sw2)))) (ap₂ keyIn (step .suites) (step .rmacs)) (step .response-mcvs)
+      ap₂ (λ (k mcv : Bytes). C .mac k (responseMacInput mcv (responseObjects y (m .header .sw1) (m .header .sw2))))
+      (ap₂ keyIn (step .suites) (step .rmacs)) (step .response-mcvs)
 
   response-mac-size : length (take 8 whole) ≡ 8
   response-mac-size =
       length-take-le 8 whole (omega (
         arith,
         ap length whole-is,
-        L .mac-length (keyIn (h .suite) (h .«sk_rmac»)) (responseMacInput (h .«response_mcv») (responseObjects y (m .header .sw1) (m .header .sw2))) (keyed .rmac),
+        L .mac-length (keyIn (h .suite) (h .«sk_rmac»))
+            (responseMacInput (h .«response_mcv») (responseObjects y (m .header .sw1) (m .header .sw2))) (keyed .rmac),
       ))
 
   response-suitable : Suits (responseWanted (m .header)) y true
@@ -329,7 +299,8 @@ module _ (C : Ciphers) (L : Laws C) (h c : Session) (m : Response) (wrapRoom unw
   unfolding unwrapResponseChecks
   response-unwrap-checks =
       pass _ _ _ _ (step .host-open) (pass _ _ _ _ (turn Host Pending h (step .host-side) (step .host-phase)) (pass _ _ _ _ (lt-ltb 0 (length sent) some-sent)
-      (pass _ _ _ _ (le-leb (length sent) 16403 (omega (arith, length-responseField y p response-size (take 8 whole) response-mac-size (m .header .sw1) (m .header .sw2), response-short p fits))) refl)))
+      (pass _ _ _ _ (le-leb (length sent) 16403
+      (omega (arith, length-responseField y p response-size (take 8 whole) response-mac-size (m .header .sw1) (m .header .sw2), response-short p fits))) refl)))
 
   whole-same : responseMac C h (coveredOf sent q) ≡ whole
   unfolding responseMac
@@ -341,20 +312,20 @@ module _ (C : Ciphers) (L : Laws C) (h c : Session) (m : Response) (wrapRoom unw
   response-text =
       ap (C .decrypt (keyIn (h .suite) (h .«sk_enc»)) (responseCounter (h .count))) (response-back .encrypted ∙ response-encrypted)
       ∙ L .decrypt-encrypt (keyIn (h .suite) (h .«sk_enc»)) (responseCounter (h .count)) (m .payload) (keyed .enc)
-      (response-lawful (record { enc = []; mac = []; rmac = [] }) .counter-is (h .count)) bytes
+      (response-counter-is (h .count)) bytes
+
+  response-text-given : verifiedText C (keyIn (h .suite) (h .«sk_enc»)) (responseCounter (h .count))
+      (responseMac C h (coveredOf sent q)) (receivedIn sent q) unwrapRoom ≡ gave (m .payload)
+  response-text-given =
+      gave-verified C _ _ _ _ unwrapRoom (m .payload) (record {
+        fits = omega (arith, ap length (response-back .encrypted), response-size, unwrapFits);
+        right = response-back .tag ∙ ap (take 8) (sym whole-same);
+        text = response-text;
+      })
 
   response-unwraps : hostUnwraps C h (m .header) sent unwrapRoom ≡ record { answer = gave m; next = responseTaken h whole }
-  unfolding openResponse hostUnwraps responseAccepted concluded _and-then_ objectsOf textOf require_else_⨾_
-  response-unwraps =
-      rw (
-        response-unwrap-checks,
-        response-back .accepted,
-        le-leb (q .«ciphertext_len») unwrapRoom (omega (arith, response-back .size, response-size, unwrapFits)),
-        whole-same,
-        response-back .tag,
-        same-self (take 8 whole),
-        response-text,
-      )
+  unfolding openResponse hostUnwraps responseAccepted concluded _and-then_ objectsOf
+  response-unwraps = rw (response-unwrap-checks, response-back .accepted, response-text-given, whole-same)
 
   response-delivered : ResponseDelivered C h c m wrapRoom unwrapRoom
   response-delivered =
@@ -393,19 +364,7 @@ pub delivers-responses : (C : Ciphers) → Laws C → DeliversResponses C
 delivers-responses C L h c m wrapRoom unwrapRoom step keyed permitted fits bytes wrapFits unwrapFits =
     response-delivered C L h c m wrapRoom unwrapRoom step keyed permitted fits bytes wrapFits unwrapFits
 
--- keys have the length of one suite only
-enc-length : (suite : Suite) (K : Keys) → keysFit (keyLength suite) K ≡ true → length (K .enc) ≡ keyLength suite
-unfolding keysFit
-enc-length suite K e =
-    let n = keyLength suite in
-    eqb-true _ _ (both (eqb (length (K .enc)) n) (eqb (length (K .mac)) n)
-    (both (eqb (length (K .enc)) n && eqb (length (K .mac)) n) (eqb (length (K .rmac)) n) e .0) .0)
-
-one-suite : (s t : Suite) (K : Keys) → keysFit (keyLength s) K ≡ true → keysFit (keyLength t) K ≡ true → t ≡ s
-one-suite Cs2 Cs2 K e f = refl
-one-suite Cs2 Cs7 K e f = let z : ⊥ = omega (arith, enc-length Cs2 K e, enc-length Cs7 K f) in absurd z
-one-suite Cs7 Cs2 K e f = let z : ⊥ = omega (arith, enc-length Cs7 K e, enc-length Cs2 K f) in absurd z
-one-suite Cs7 Cs7 K e f = refl
+-- ---- openings
 
 pub opens-in-step : OpensInStep
 opens-in-step n m K y oh oc =
@@ -413,7 +372,8 @@ opens-in-step n m K y oh oc =
     let c : Fresh Card m K = opened Card m K oc in
     let s : c .suite ≡ h .suite = one-suite (h .suite) (c .suite) K (h .fits) (c .fits) in
     let g : AreKeys K = are-keys (h .suite) K y (h .fits) in
-    let l : Live aesCiphers K Host (fresh Host (h .suite) (stored (K .enc)) (stored (K .mac)) (stored (K .rmac))) [] [] = fresh-live aesCiphers K Host (h .suite) (h .fits) in (
+    let l : Live aesCiphers K Host (fresh Host (h .suite) (stored (K .enc)) (stored (K .mac)) (stored (K .rmac))) [] [] =
+    fresh-live aesCiphers K Host (h .suite) (h .fits) in (
       record {
         host-open = opening-served Host n K oh;
         card-open = opening-served Card m K oc;

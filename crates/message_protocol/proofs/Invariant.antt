@@ -1,22 +1,17 @@
 -- What links the two sessions and the transcript; and that every call keeps it, or is an acceptance that breaks the MAC.
--- Assumes nothing.
 use mathlib.Core.Path.{_≡_, refl, sym, ap, ap₂, _∙_}
 use mathlib.Core.Logic.{_⊎_, inl, inr}
-use mathlib.Core.Bool.{true, _&&_}
-use mathlib.Core.List.{List, [], _∷_, _++_, append-nil, List·Memᴰ}
+use mathlib.Core.Bool.{true}
+use mathlib.Core.List.{[], _∷_, _++_, List·Memᴰ}
 use mathlib.Core.Option.{some}
-use Prim.Native.Nat.{ℕ, suc, _+_, _≤_}
+use Prim.Native.Nat.{ℕ, suc, _+_}
 use native.Mathlib.Omega.{arith}
-use borrow.Author.Tests.{leb-true}
-use lib.Dec.{leb}
 use lib.ListN.{length, take, length-append}
-use lib.Seq.{append-snoc}
-use Rattle.octets.proofs.Tests.{both}
 use Rattle.octets.specs.Bytes.{Bytes, IsBytes}
 use Rattle.field_read.specs.Field.{readField, ciphertextOf, coveredOf}
 use Rattle.field_read.specs.declared.Objects.{Objects}
 use Rattle.field_read.specs.declared.FieldRead.the-variants.{Read}
-use Rattle.field_write.specs.Objects.{commandObjects, responseObjects, commandField, responseField}
+use Rattle.field_write.specs.Objects.{commandObjects, responseObjects, macObject, commandField, responseField}
 use Rattle.message_mac.specs.MacInput.{encodedHeader, commandMacInput, responseMacInput}
 use Rattle.field_laws.specs.Covered.{dataIn, secondIn, sw1In, sw2In}
 use Rattle.field_laws.specs.Written.{WholeBlocks}
@@ -25,7 +20,7 @@ use Rattle.field_laws.proofs.CoveredWritten.{command-data, command-le, response
 use Rattle.session.specs.Session.{closed}
 use Rattle.session_turn.specs.Transitions.{commandTaken, responseTaken}
 use Rattle.session_suite.specs.StoredKeys.{keyIn, Keys}
-use Rattle.session_rules.specs.Valid.{keepsPhase, valid, isOpen, countsAsOpen}
+use Rattle.session_rules.specs.Valid.{countsAsOpen}
 use Rattle.session.specs.declared.Side.{Side}
 use Rattle.session.specs.declared.Side.the-variants.{Host, Card}
 use Rattle.session.specs.declared.Phase.the-variants.{Ready, Pending}
@@ -36,10 +31,14 @@ use Rattle.message_permission.specs.Permission.{commandWanted, responseWanted}
 use Rattle.message_counter.specs.Counter.{commandCounter, responseCounter}
 use Rattle.message_protocol.specs.Command.{commandInput, commandMac, commandCiphertext, commandWrapped, commandAccepted, headerRead}
 use Rattle.message_protocol.specs.Response.{responseMac, responseCiphertext, responseWrapped, responseAccepted}
-use Rattle.message_protocol.specs.Transcript.{wrapCommand, unwrapCommand, wrapResponse, unwrapResponse, Entry, inputs, Transcript, Direction, commands, responses, chaining, encrypted, wrapped, received, commandRead, responseRead, acceptedCommand, acceptedResponse, noted}
-use Rattle.message_protocol.specs.Agreement.{Written, Collision, Breaks}
-use Rattle.message_protocol.proofs.Logs.{append-cut, chaining-snoc}
-use Rattle.message_protocol.proofs.Channel.{Channel, command-lawful, response-lawful, channel-wrapped, channel-accepted}
+use Rattle.message_protocol.specs.Transcript.{wrapCommand, unwrapCommand, wrapResponse, unwrapResponse, Transcript, commands, responses, chaining, commandRead, responseRead, acceptedCommand, acceptedResponse, noted}
+use Rattle.message_protocol.specs.Agreement.{Collision, Breaks}
+use Rattle.message_exchange.specs.Exchange.{Entry, Log, inputs, wrapEntry, fieldOf, accepts}
+use Rattle.message_exchange.proofs.Places.{append-cut, Repeated}
+use Rattle.message_exchange.proofs.Channel.{Channel, channel-wraps, channel-accepts}
+use Rattle.message_exchange.proofs.Kept as kept
+use Rattle.message_protocol.proofs.ChainingValues.{chaining-snoc, collision}
+use Rattle.message_protocol.proofs.Directions.{command-lawful, response-lawful}
 use Rattle.message_protocol.proofs.CallCases.{turn-is, MayWrapCommand, MayWrapResponse, CommandRead, ResponseRead}
 
 pub record AreKeys (K : Keys) : Type 0 where
@@ -96,22 +95,11 @@ pub closed-shut : {P : Type 0} (s : Session) → countsAsOpen (closed s) ≡ tru
 unfolding countsAsOpen
 closed-shut s e = let z : _≡_ {A = ℕ} 0 1 = cc in let o : ⊥ = omega arith in absurd o
 
--- ---- fields handed out
-
-written-snoc : {H : Type 0} (C : Ciphers) (enc : Bytes) (D : Direction H) (before log : List (Entry H)) (fields : List Bytes) (e : Entry H) (f : Bytes)
-    → Written C enc D before log fields
-    → f ≡ D .field (e .message .header) (encrypted C D enc (e .message) (before ++ log)) (take 8 (C .mac (D .key) (e .input)))
-    → Written C enc D before (log ++ e ∷ []) (fields ++ f ∷ [])
-written-snoc C enc D before [] [] e f w q = (rw append-nil at q, tt)
-written-snoc C enc D before [] (g ∷ fields) e f w q = absurd w
-written-snoc C enc D before (x ∷ log) [] e f w q = absurd w
-written-snoc C enc D before (x ∷ log) (g ∷ fields) e f w q = (w .0, written-snoc C enc D (before ++ x ∷ []) log fields e f (w .1) (rw append-snoc q))
-
 -- ---- the invariant
 
 module _ (C : Ciphers) (K : Keys) where
   -- what a session that counts as open has to do with the logs of its side
-  pub record Live (side : Side) (s : Session) (cs : List (Entry CommandHeader)) (rs : List (Entry StatusWord)) : Type 0 where
+  pub record Live (side : Side) (s : Session) (cs : Log CommandHeader) (rs : Log StatusWord) : Type 0 where
     pub side-is : s .side ≡ side
     pub enc-is : keyIn (s .suite) (s .«sk_enc») ≡ K .enc
     pub mac-is : keyIn (s .suite) (s .«sk_mac») ≡ K .mac
@@ -123,16 +111,11 @@ module _ (C : Ciphers) (K : Keys) where
     pub pending-is : s .phase ≡ Pending → length cs ≡ suc (length rs)
 
   pub record Inv (h c : Session) (t : Transcript) : Type 0 where
-    pub host-is : countsAsOpen h ≡ true → Live Host h (t .commandsWrapped) (t .responsesAccepted)
-    pub card-is : countsAsOpen c ≡ true → Live Card c (t .commandsAccepted) (t .responsesWrapped)
-    pub s≤a : length (t .responsesWrapped) ≤ length (t .commandsAccepted)
-    pub w≤r+1 : length (t .commandsWrapped) ≤ length (t .responsesAccepted) + 1
-    pub command-channel : Channel C (K .enc) (commands K) (t .commandsAccepted) (t .commandsWrapped)
-    pub response-channel : Channel C (K .enc) (responses K) (t .responsesAccepted) (t .responsesWrapped)
-    pub command-fields : Written C (K .enc) (commands K) [] (t .commandsWrapped) (t .commandFields)
-    pub response-fields : Written C (K .enc) (responses K) [] (t .responsesWrapped) (t .responseFields)
+    pub host-is : countsAsOpen h ≡ true → Live Host h (t .commands .wrapped) (t .responses .accepted)
+    pub card-is : countsAsOpen c ≡ true → Live Card c (t .commands .accepted) (t .responses .wrapped)
+    pub keeps : kept.Kept (commands C K) (responses C K) t
 
-  command-live : (side : Side) (s : Session) (cs : List (Entry CommandHeader)) (rs : List (Entry StatusWord)) (x : Entry CommandHeader) (full : Bytes)
+  command-live : (side : Side) (s : Session) (cs : Log CommandHeader) (rs : Log StatusWord) (x : Entry CommandHeader) (full : Bytes)
       → Live side s cs rs → s .phase ≡ Ready → full ≡ C .mac (K .mac) (x .input) → Live side (commandTaken s full) (cs ++ x ∷ []) rs
   command-live side s cs rs x full l r w =
       let n : length cs ≡ length rs = l .ready-is r in
@@ -148,7 +131,7 @@ module _ (C : Ciphers) (K : Keys) where
         pending-is = λ p. omega (arith, n, length-append cs (x ∷ []));
       }
 
-  response-live : (side : Side) (s : Session) (cs : List (Entry CommandHeader)) (rs : List (Entry StatusWord)) (x : Entry StatusWord) (full : Bytes)
+  response-live : (side : Side) (s : Session) (cs : Log CommandHeader) (rs : Log StatusWord) (x : Entry StatusWord) (full : Bytes)
       → Live side s cs rs → s .phase ≡ Pending → full ≡ C .mac (K .rmac) (x .input) → Live side (responseTaken s full) cs (rs ++ x ∷ [])
   response-live side s cs rs x full l r w =
       let n : length cs ≡ suc (length rs) = l .pending-is r in
@@ -166,85 +149,85 @@ module _ (C : Ciphers) (K : Keys) where
 
   -- ---- the host wraps a command
 
-  module _ (h c : Session) (t : Transcript) (m : Command) (room : ℕ) (v : Inv h c t) (may : MayWrapCommand h (m .header) (length (m .payload)) room) (y : IsBytes (m .payload)) where
+  module _ (h c : Session) (t : Transcript) (m : Command) (room : ℕ) (v : Inv h c t)
+      (may : MayWrapCommand h (m .header) (length (m .payload)) room) (y : IsBytes (m .payload)) where
     abbrev w : Entry CommandHeader
-    w = wrapped C (commands K) (K .enc) m (t .commandsWrapped)
+    w = wrapEntry (commands C K) m (t .commands .wrapped)
 
-    host : Live Host h (t .commandsWrapped) (t .responsesAccepted)
+    host : Live Host h (t .commands .wrapped) (t .responses .accepted)
     host = v .host-is (may .opened)
 
-    command-encrypted : commandCiphertext C h (m .payload) ≡ encrypted C (commands K) (K .enc) m (t .commandsWrapped)
-    unfolding commandCiphertext encrypted
+    command-encrypted : commandCiphertext C h (m .payload) ≡ commands C K .encrypt (suc (length (t .commands .wrapped))) (m .payload)
+    unfolding commandCiphertext
     command-encrypted =
         ap₂ (λ (k : Bytes) (n : ℕ). C .encrypt k (commandCounter n) (m .payload)) (host .enc-is)
-        (let e : h .count + 1 ≡ suc (length (t .commandsWrapped)) = omega (arith, host .count-is) in e)
+        (let e : h .count + 1 ≡ suc (length (t .commands .wrapped)) = omega (arith, host .count-is) in e)
 
     command-maced : commandMac C h (m .header) (commandObjects (commandCiphertext C h (m .payload)) (m .header .le)) ≡ C .mac (K .mac) (w .input)
-    unfolding commandMac wrapped
+    unfolding commandMac wrapEntry
     command-maced =
-        ap₂ (λ (k mcv : Bytes). C .mac k (commandInput mcv (m .header) (commandObjects (commandCiphertext C h (m .payload)) (m .header .le)))) (host .mac-is) (host .command-is)
-        ∙ ap (λ (x : Bytes). C .mac (K .mac) (commandInput (chaining C (K .mac) (t .commandsWrapped)) (m .header) (commandObjects x (m .header .le)))) command-encrypted
+        ap₂ (λ (k mcv : Bytes). C .mac k (commandInput mcv (m .header) (commandObjects (commandCiphertext C h (m .payload)) (m .header .le))))
+        (host .mac-is) (host .command-is)
+        ∙ ap (λ (x : Bytes). C .mac (K .mac) (commands C K .input (t .commands .wrapped) (m .header) (commandObjects x (m .header .le)))) command-encrypted
 
     pub command-wrapped : let o = commandWrapped C h (m .header) (commandCiphertext C h (m .payload)) in
         Inv (o .next) c (noted C K t (wrapCommand Host m room) (o .gives))
-    unfolding noted wrapped commandWrapped
+    unfolding noted wrapEntry fieldOf commandWrapped commandField
     command-wrapped =
         let r : h .phase ≡ Ready = turn-is Host Ready h (may .turn) .1 in
-        let n : length (t .commandsWrapped) ≡ length (t .responsesAccepted) = host .ready-is r in
         record {
-          host-is = λ z. command-live Host h (t .commandsWrapped) (t .responsesAccepted) w _ host r command-maced;
+          host-is = λ z. command-live Host h (t .commands .wrapped) (t .responses .accepted) w _ host r command-maced;
           card-is = v .card-is;
-          s≤a = v .s≤a;
-          w≤r+1 = omega (arith, n, length-append (t .commandsWrapped) (w ∷ []));
-          command-channel = channel-wrapped C (K .enc) (commands K) (t .commandsAccepted) (t .commandsWrapped) m (v .command-channel) (may .short) y;
-          response-channel = v .response-channel;
-          command-fields =
-              written-snoc C (K .enc) (commands K) [] (t .commandsWrapped) (t .commandFields) w _ (v .command-fields)
-              (ap₂ (λ (x mac : Bytes). commandField x (m .header .le) (take 8 mac)) command-encrypted command-maced);
-          response-fields = v .response-fields;
+          keeps =
+              kept.command-wrapped (commands C K) (responses C K) t m _ (v .keeps) (host .ready-is r)
+              (channel-wraps (commands C K) (t .commands) (v .keeps .command-channel) m _ y (let n = may .short in omega arith)
+              (ap₂ (λ (x mac : Bytes). commandObjects x (m .header .le) ++ macObject (take 8 mac)) command-encrypted command-maced));
         }
 
   -- ---- the card wraps a response
 
-  module _ (h c : Session) (t : Transcript) (m : Response) (room : ℕ) (v : Inv h c t) (may : MayWrapResponse c (m .header) (length (m .payload)) room) (y : IsBytes (m .payload)) where
+  module _ (h c : Session) (t : Transcript) (m : Response) (room : ℕ) (v : Inv h c t)
+      (may : MayWrapResponse c (m .header) (length (m .payload)) room) (y : IsBytes (m .payload)) where
     abbrev x : Entry StatusWord
-    x = wrapped C (responses K) (K .enc) m (t .responsesWrapped)
+    x = wrapEntry (responses C K) m (t .responses .wrapped)
 
-    card : Live Card c (t .commandsAccepted) (t .responsesWrapped)
+    card : Live Card c (t .commands .accepted) (t .responses .wrapped)
     card = v .card-is (may .opened)
 
-    outstanding : length (t .commandsAccepted) ≡ suc (length (t .responsesWrapped))
+    outstanding : length (t .commands .accepted) ≡ suc (length (t .responses .wrapped))
     outstanding = card .pending-is (turn-is Card Pending c (may .turn) .1)
 
-    response-encrypted : responseCiphertext C c (m .payload) ≡ encrypted C (responses K) (K .enc) m (t .responsesWrapped)
-    unfolding responseCiphertext encrypted
+    response-encrypted : responseCiphertext C c (m .payload) ≡ responses C K .encrypt (suc (length (t .responses .wrapped))) (m .payload)
+    unfolding responseCiphertext
     response-encrypted =
         ap₂ (λ (k : Bytes) (n : ℕ). C .encrypt k (responseCounter n) (m .payload)) (card .enc-is) (card .count-is ∙ outstanding)
 
     response-maced : responseMac C c (responseObjects (responseCiphertext C c (m .payload)) (m .header .sw1) (m .header .sw2)) ≡ C .mac (K .rmac) (x .input)
-    unfolding responseMac wrapped
+    unfolding responseMac wrapEntry
     response-maced =
-        ap₂ (λ (k mcv : Bytes). C .mac k (responseMacInput mcv (responseObjects (responseCiphertext C c (m .payload)) (m .header .sw1) (m .header .sw2)))) (card .rmac-is) (card .response-is)
-        ∙ ap (λ (z : Bytes). C .mac (K .rmac) (responseMacInput (chaining C (K .rmac) (t .responsesWrapped)) (responseObjects z (m .header .sw1) (m .header .sw2)))) response-encrypted
+        ap₂ (λ (k mcv : Bytes). C .mac k (responseMacInput mcv (responses C K .objects (m .header) (responseCiphertext C c (m .payload)))))
+        (card .rmac-is) (card .response-is)
+        ∙ ap (λ (z : Bytes). C .mac (K .rmac) (responses C K .input (t .responses .wrapped) (m .header) (responses C K .objects (m .header) z)))
+        response-encrypted
 
     pub response-wrapped : let o = responseWrapped C c (m .header) (responseCiphertext C c (m .payload)) in
         Inv h (o .next) (noted C K t (wrapResponse Card m room) (o .gives))
-    unfolding noted wrapped responseWrapped
+    unfolding noted wrapEntry fieldOf responseWrapped responseField
     response-wrapped =
         record {
           host-is = v .host-is;
-          card-is = λ z. response-live Card c (t .commandsAccepted) (t .responsesWrapped) x _ card (turn-is Card Pending c (may .turn) .1) response-maced;
-          s≤a = omega (arith, outstanding, length-append (t .responsesWrapped) (x ∷ []));
-          w≤r+1 = v .w≤r+1;
-          command-channel = v .command-channel;
-          response-channel = channel-wrapped C (K .enc) (responses K) (t .responsesAccepted) (t .responsesWrapped) m (v .response-channel) (may .short) y;
-          command-fields = v .command-fields;
-          response-fields =
-              written-snoc C (K .enc) (responses K) [] (t .responsesWrapped) (t .responseFields) x _ (v .response-fields)
-              (ap₂ (λ (z mac : Bytes). responseField z (m .header .sw1) (m .header .sw2) (take 8 mac)) response-encrypted response-maced);
+          card-is = λ z. response-live Card c (t .commands .accepted) (t .responses .wrapped) x _ card (turn-is Card Pending c (may .turn) .1) response-maced;
+          keeps =
+              kept.response-wrapped (commands C K) (responses C K) t m _ (v .keeps) outstanding
+              (channel-wraps (responses C K) (t .responses) (v .keeps .response-channel) m _ y (let n = may .short in omega arith)
+              (ap₂ (λ (z mac : Bytes). responseObjects z (m .header .sw1) (m .header .sw2) ++ macObject (take 8 mac)) response-encrypted response-maced));
         }
 
   -- ---- the card accepts a command
+
+  or-collision : {H : Type 0} {P : Type 0} (key : Bytes) (A more W : Log H) → A ++ more ≡ W → P ⊎ Repeated (chaining C key) A W → P ⊎ Collision C key (inputs W)
+  or-collision key A more W a (inl p) = inl p
+  or-collision key A more W a (inr r) = inr (collision C key A more W a r)
 
   objects-read : (ins : ℕ) (field : Bytes) (o : Objects) → readField (commandWanted ins) field ≡ Read o → commandRead ins field ≡ o
   objects-read ins field o e = rw e
@@ -254,8 +237,8 @@ module _ (C : Ciphers) (K : Keys) where
 
   module _ (L : Laws C) (G : AreKeys K) (h c : Session) (t : Transcript) (ins p1 p2 : ℕ) (field : Bytes) (room : ℕ) (o : Objects) (d : Bytes)
       (v : Inv h c t) (read : CommandRead C c ins p1 p2 field room o d) where
-    abbrev A : List (Entry CommandHeader)
-    A = t .commandsAccepted
+    abbrev A : Log CommandHeader
+    A = t .commands .accepted
 
     abbrev m : Command
     m = record { header = headerRead ins p1 p2 o; payload = d }
@@ -266,7 +249,7 @@ module _ (C : Ciphers) (K : Keys) where
     abbrev g : CommandGiven
     g = record { payload = d; le = o .second }
 
-    card-live : Live Card c A (t .responsesWrapped)
+    card-live : Live Card c A (t .responses .wrapped)
     card-live = v .card-is (read .may .opened)
 
     accepted-maced : commandMac C c (headerRead ins p1 p2 o) (coveredOf field o) ≡ C .mac (K .mac) i
@@ -281,44 +264,44 @@ module _ (C : Ciphers) (K : Keys) where
         ∙ read .text
 
     entry-is : acceptedCommand C K ins p1 p2 field g A ≡ record { message = m; input = i }
-    unfolding acceptedCommand received
+    unfolding acceptedCommand
     entry-is =
         ap (λ (q : Objects). record {
           message = m;
           input = commandInput (chaining C (K .mac) A) (headerRead ins p1 p2 q) (coveredOf field q);
         }) (objects-read ins field o (read .read))
 
-    pub command-accepted : let a = commandAccepted C c ins p1 p2 field o d in
+    pub command-accepted : let a = commandAccepted c (o .second) (commandMac C c (headerRead ins p1 p2 o) (coveredOf field o)) d in
         Inv h (a .next) (noted C K t (unwrapCommand Card ins p1 p2 field room) (a .gives)) ⊎ Breaks C K t (unwrapCommand Card ins p1 p2 field room) (a .gives)
     unfolding noted commandAccepted
     command-accepted =
-        go (channel-accepted C (K .enc) (commands K) L (command-lawful K) (G .mac) (G .enc) A (t .commandsWrapped) m (ciphertextOf field o) (coveredOf field o)
-        (v .command-channel) (λ h c blocks q. command-same (chaining C (K .mac) A) ins p1 p2 field o (read .read) h c blocks q) accepted-text)
+        go (channel-accepts (commands C K) (t .commands) (v .keeps .command-channel) (command-lawful C K L (G .enc) (G .mac)) m (ciphertextOf field o)
+        (coveredOf field o) (λ h c blocks q. command-same (chaining C (K .mac) A) ins p1 p2 field o (read .read) h c blocks q) accepted-text)
       where
-        go : Channel C (K .enc) (commands K) (A ++ record { message = m; input = i } ∷ []) (t .commandsWrapped)
-            ⊎ ((List·Memᴰ i (inputs (t .commandsWrapped)) → ⊥) ⊎ Collision C (K .mac) (inputs (t .commandsWrapped)))
+        go : Channel (commands C K) (accepts (record { message = m; input = i }) (t .commands))
+            ⊎ ((List·Memᴰ i (inputs (t .commands .wrapped)) → ⊥) ⊎ Repeated (chaining C (K .mac)) A (t .commands .wrapped))
             → Inv h (commandTaken c (commandMac C c (headerRead ins p1 p2 o) (coveredOf field o))) (noted C K t (unwrapCommand Card ins p1 p2 field room) g)
             ⊎ Breaks C K t (unwrapCommand Card ins p1 p2 field room) g
         go (inr cause) =
-            inr (rw (entry-is, objects-read ins field o (read .read)) (record { right = read .right ∙ ap (take 8) accepted-maced; cause = cause }))
+            inr (rw (entry-is, objects-read ins field o (read .read)) (record {
+              right = read .right ∙ ap (take 8) accepted-maced;
+              cause = or-collision (K .mac) A (v .keeps .command-channel .more) (t .commands .wrapped) (v .keeps .command-channel .is) cause;
+            }))
         go (inl e) =
             inl (rw entry-is (record {
               host-is = v .host-is;
-              card-is = λ z. command-live Card c A (t .responsesWrapped) (record { message = m; input = i }) _ card-live (turn-is Card Ready c (read .may .turn) .1) accepted-maced;
-              s≤a = omega (arith, v .s≤a, length-append A (record { message = m; input = i } ∷ []));
-              w≤r+1 = v .w≤r+1;
-              command-channel = e;
-              response-channel = v .response-channel;
-              command-fields = v .command-fields;
-              response-fields = v .response-fields;
+              card-is = λ z.
+                  command-live Card c A (t .responses .wrapped) (record { message = m; input = i }) _ card-live
+                  (turn-is Card Ready c (read .may .turn) .1) accepted-maced;
+              keeps = kept.command-accepted (commands C K) (responses C K) t (record { message = m; input = i }) (v .keeps) e;
             }))
 
   -- ---- the host accepts a response
 
   module _ (L : Laws C) (G : AreKeys K) (h c : Session) (t : Transcript) (sw : StatusWord) (field : Bytes) (room : ℕ) (o : Objects) (d : Bytes)
       (v : Inv h c t) (read : ResponseRead C h sw field room o d) where
-    abbrev R : List (Entry StatusWord)
-    R = t .responsesAccepted
+    abbrev R : Log StatusWord
+    R = t .responses .accepted
 
     abbrev a : Response
     a = record { header = sw; payload = d }
@@ -326,10 +309,10 @@ module _ (C : Ciphers) (K : Keys) where
     abbrev j : Bytes
     j = responseMacInput (chaining C (K .rmac) R) (coveredOf field o)
 
-    host-live : Live Host h (t .commandsWrapped) R
+    host-live : Live Host h (t .commands .wrapped) R
     host-live = v .host-is (read .may .opened)
 
-    waiting : length (t .commandsWrapped) ≡ suc (length R)
+    waiting : length (t .commands .wrapped) ≡ suc (length R)
     waiting = host-live .pending-is (turn-is Host Pending h (read .may .turn) .1)
 
     response-full : responseMac C h (coveredOf field o) ≡ C .mac (K .rmac) j
@@ -343,31 +326,32 @@ module _ (C : Ciphers) (K : Keys) where
         ∙ read .text
 
     response-entry : acceptedResponse C K sw field a R ≡ record { message = a; input = j }
-    unfolding acceptedResponse received
+    unfolding acceptedResponse
     response-entry =
-        ap (λ (q : Objects). record { message = a; input = responseMacInput (chaining C (K .rmac) R) (coveredOf field q) }) (status-read sw field o (read .read))
+        ap (λ (q : Objects). record { message = a; input = responseMacInput (chaining C (K .rmac) R) (coveredOf field q) })
+        (status-read sw field o (read .read))
 
-    pub response-accepted : let u = responseAccepted C h sw field o d in
+    pub response-accepted : let u = responseAccepted h sw (responseMac C h (coveredOf field o)) d in
         Inv (u .next) c (noted C K t (unwrapResponse Host sw field room) (u .gives)) ⊎ Breaks C K t (unwrapResponse Host sw field room) (u .gives)
     unfolding noted responseAccepted
     response-accepted =
-        go (channel-accepted C (K .enc) (responses K) L (response-lawful K) (G .rmac) (G .enc) R (t .responsesWrapped) a (ciphertextOf field o) (coveredOf field o)
-        (v .response-channel) (λ u c blocks q. response-same (chaining C (K .rmac) R) sw field o (read .read) u c blocks q) response-text)
+        go (channel-accepts (responses C K) (t .responses) (v .keeps .response-channel) (response-lawful C K L (G .enc) (G .rmac)) a (ciphertextOf field o)
+        (coveredOf field o) (λ u c blocks q. response-same (chaining C (K .rmac) R) sw field o (read .read) u c blocks q) response-text)
       where
-        go : Channel C (K .enc) (responses K) (R ++ record { message = a; input = j } ∷ []) (t .responsesWrapped)
-            ⊎ ((List·Memᴰ j (inputs (t .responsesWrapped)) → ⊥) ⊎ Collision C (K .rmac) (inputs (t .responsesWrapped)))
+        go : Channel (responses C K) (accepts (record { message = a; input = j }) (t .responses))
+            ⊎ ((List·Memᴰ j (inputs (t .responses .wrapped)) → ⊥) ⊎ Repeated (chaining C (K .rmac)) R (t .responses .wrapped))
             → Inv (responseTaken h (responseMac C h (coveredOf field o))) c (noted C K t (unwrapResponse Host sw field room) a)
             ⊎ Breaks C K t (unwrapResponse Host sw field room) a
         go (inr cause) =
-            inr (rw (response-entry, status-read sw field o (read .read)) (record { right = read .right ∙ ap (take 8) response-full; cause = cause }))
+            inr (rw (response-entry, status-read sw field o (read .read)) (record {
+              right = read .right ∙ ap (take 8) response-full;
+              cause = or-collision (K .rmac) R (v .keeps .response-channel .more) (t .responses .wrapped) (v .keeps .response-channel .is) cause;
+            }))
         go (inl e) =
             inl (rw response-entry (record {
-              host-is = λ z. response-live Host h (t .commandsWrapped) R (record { message = a; input = j }) _ host-live (turn-is Host Pending h (read .may .turn) .1) response-full;
+              host-is = λ z.
+                  response-live Host h (t .commands .wrapped) R (record { message = a; input = j }) _ host-live
+                  (turn-is Host Pending h (read .may .turn) .1) response-full;
               card-is = v .card-is;
-              s≤a = v .s≤a;
-              w≤r+1 = omega (arith, waiting, length-append R (record { message = a; input = j } ∷ []));
-              command-channel = v .command-channel;
-              response-channel = e;
-              command-fields = v .command-fields;
-              response-fields = v .response-fields;
+              keeps = kept.response-accepted (commands C K) (responses C K) t (record { message = a; input = j }) (v .keeps) waiting e;
             }))

@@ -1,7 +1,7 @@
 pub mod Answers
 pub mod Exceptions
-pub mod Logs
-pub mod Channel
+pub mod ChainingValues
+pub mod Directions
 pub mod CallCases
 pub mod Invariant
 pub mod Runs
@@ -10,3 +10,5 @@ pub mod Delivered
 pub mod RulesKept
 pub mod Theorems
 pub mod KeysTyped
+pub mod LengthsKept
+pub mod OpenServed

@@ -3,6 +3,7 @@
 use mathlib.Core.Path.{_≡_}
 use mathlib.Core.Bool.{true}
 use Rattle.octets.proofs.Tests.{both}
+use Rattle.session.specs.Session.{closed}
 use Rattle.session.specs.declared.Side.the-variants.{Host, Card}
 use Rattle.session.specs.declared.Phase.the-variants.{Ready, Pending}
 use Rattle.session.specs.declared.Session.{Session}
@@ -26,7 +27,7 @@ module _ (C : Ciphers) (s : Session) (v : valid s ≡ true) where
   Kept out = valid (out .next) ≡ true
 
   refused-valid : (r : Refusal) → valid (afterRefusal s r) ≡ true
-  refused-valid r = after-refusal (λ (t : Session). valid t ≡ true) s r v (closed-valid s)
+  refused-valid r = after-refusal closed (λ (t : Session). valid t ≡ true) s r v (closed-valid s)
 
   pub keeps-the-rules : (c : Call) → valid (does C s c .next) ≡ true
   unfolding does commandWrapped commandAccepted responseWrapped responseAccepted

@@ -1,5 +1,4 @@
 -- Every call of a run keeps the invariant, or breaks the MAC; so demand 3 holds of every run.
--- Assumes nothing.
 use mathlib.Core.Path.{_≡_, refl, sym, _∙_}
 use mathlib.Core.Logic.{_⊎_, inl, inr}
 use mathlib.Core.Bool.{Bool, true, false}
@@ -8,27 +7,26 @@ use Prim.Native.Nat.{ℕ, zero, suc, _-_}
 use native.Mathlib.Omega.{arith}
 use lib.ListN.{length, take}
 use lib.Seq.{take-at}
-use Rattle.octets.specs.Bytes.{Bytes, zeros}
+use Rattle.octets.specs.Bytes.{zeros}
 use Rattle.refusal.specs.declared.Refusal.{Refusal}
 use Rattle.session_suite.specs.Suites.{keyLength, suiteOf}
 use Rattle.session.specs.Session.{fresh, closed}
 use Rattle.session_suite.specs.StoredKeys.{stored, KeysOfBytes, Keys, keysFit}
 use Rattle.session.specs.Opening.{openSuite, opening}
-use Rattle.session_suite.proofs.StoredKeys.{fitting}
+use Rattle.session_suite.proofs.StoredKeys.{key-size, fitting}
 use Rattle.session.specs.declared.Side.{Side}
 use Rattle.session.specs.declared.Side.the-variants.{Host, Card}
 use Rattle.session.specs.declared.Phase.the-variants.{Ready, Pending}
 use Rattle.session_suite.specs.declared.Suite.{Suite}
-use Rattle.session_suite.specs.declared.Suite.the-variants.{Cs2, Cs7}
 use Rattle.session_suite.specs.declared.SuiteNumber.{SuiteNumber}
 use Rattle.session_suite.specs.declared.SuiteNumber.the-variants.{Known, Unknown}
 use Rattle.session.specs.declared.Opening.the-variants.{Opened as Done, Refused}
 use Rattle.session.specs.declared.Session.{Session}
 use Rattle.message_ciphers.specs.Ciphers.{Ciphers, Laws}
 use Rattle.message_answer.specs.Answer.{Out, afterRefusal}
-use Rattle.message_protocol.specs.Transcript.{Call, wrapCommand, unwrapCommand, wrapResponse, unwrapResponse, close, sideOf, Gives, does, Transcript, commands, responses, lastMac, chaining, noted, entered, State, sessionAt, moved, step, run, start}
+use Rattle.message_protocol.specs.Transcript.{Call, wrapCommand, unwrapCommand, wrapResponse, unwrapResponse, close, sideOf, Gives, does, Transcript, commands, responses, chainingValues, chaining, noted, entered, State, sessionAt, moved, step, run, start}
 use Rattle.message_protocol.specs.Agreement.{Agrees, BreaksIn, Excepted, CallBytes, AllBytes, Agreement}
-use Rattle.message_protocol.proofs.Channel.{channel-empty, channel-length, channel-messages}
+use Rattle.message_exchange.proofs.Kept.{kept-empty, kept-agrees}
 use Rattle.message_protocol.proofs.CallCases.{turn-is, host-wraps, card-wraps, card-unwraps, host-unwraps}
 use Rattle.message_answer.proofs.Refusals.{after-refusal}
 use Rattle.message_protocol.proofs.Invariant.{AreKeys, Live, Inv, ready-pending, host-card, closed-shut, command-wrapped, response-wrapped, command-accepted, response-accepted}
@@ -38,36 +36,16 @@ module _ (C : Ciphers) (K : Keys) where
   Invariant st = Inv C K (st .host) (st .card) (st .transcript)
 
   host-closed : (h c : Session) (t : Transcript) → Inv C K h c t → Inv C K (closed h) c t
-  host-closed h c t v =
-      record {
-        host-is = λ e. closed-shut h e;
-        card-is = v .card-is;
-        s≤a = v .s≤a;
-        w≤r+1 = v .w≤r+1;
-        command-channel = v .command-channel;
-        response-channel = v .response-channel;
-        command-fields = v .command-fields;
-        response-fields = v .response-fields;
-      }
+  host-closed h c t v = record { host-is = λ e. closed-shut h e; card-is = v .card-is; keeps = v .keeps }
 
   card-closed : (h c : Session) (t : Transcript) → Inv C K h c t → Inv C K h (closed c) t
-  card-closed h c t v =
-      record {
-        host-is = v .host-is;
-        card-is = λ e. closed-shut c e;
-        s≤a = v .s≤a;
-        w≤r+1 = v .w≤r+1;
-        command-channel = v .command-channel;
-        response-channel = v .response-channel;
-        command-fields = v .command-fields;
-        response-fields = v .response-fields;
-      }
+  card-closed h c t v = record { host-is = v .host-is; card-is = λ e. closed-shut c e; keeps = v .keeps }
 
   host-refused : (h c : Session) (t : Transcript) (r : Refusal) → Inv C K h c t → Inv C K (afterRefusal h r) c t
-  host-refused h c t r v = after-refusal (λ (s : Session). Inv C K s c t) h r v (host-closed h c t v)
+  host-refused h c t r v = after-refusal closed (λ (s : Session). Inv C K s c t) h r v (host-closed h c t v)
 
   card-refused : (h c : Session) (t : Transcript) (r : Refusal) → Inv C K h c t → Inv C K h (afterRefusal c r) t
-  card-refused h c t r v = after-refusal (λ (s : Session). Inv C K h s t) c r v (card-closed h c t v)
+  card-refused h c t r v = after-refusal closed (λ (s : Session). Inv C K h s t) c r v (card-closed h c t v)
 
   -- what a call leaves
   abbrev Kept : State → (c : Call) → Out (Gives c) → Type 0
@@ -108,18 +86,7 @@ module _ (C : Ciphers) (K : Keys) where
   keep L G st (close Card) y v = inl (card-closed (st .host) (st .card) (st .transcript) v)
 
   agrees : (st : State) → Invariant st → Agrees C K (st .transcript)
-  agrees st v =
-      let t = st .transcript in
-      record {
-        r≤s = channel-length C (K .enc) (responses K) (t .responsesAccepted) (t .responsesWrapped) (v .response-channel);
-        s≤a = v .s≤a;
-        a≤w = channel-length C (K .enc) (commands K) (t .commandsAccepted) (t .commandsWrapped) (v .command-channel);
-        w≤r+1 = v .w≤r+1;
-        commandsAgree = channel-messages C (K .enc) (commands K) (t .commandsAccepted) (t .commandsWrapped) (v .command-channel);
-        responsesAgree = channel-messages C (K .enc) (responses K) (t .responsesAccepted) (t .responsesWrapped) (v .response-channel);
-        commandsWritten = v .command-fields;
-        responsesWritten = v .response-fields;
-      }
+  agrees st v = kept-agrees (commands C K) (responses C K) (st .transcript) (v .keeps)
 
   runs : Laws C → AreKeys K → (calls : List Call) (st : State) → AllBytes calls → Invariant st
       → Agrees C K (run C K st calls .transcript) ⊎ Excepted C K st calls
@@ -157,10 +124,6 @@ opened side n K e = go (suiteOf n) refl e
     go (Known suite) q e = by suite (keysFit (keyLength suite) K) refl q e
     go Unknown q e = not-done e
 
-key-size : (suite : Suite) (k : Bytes) → length k ≡ keyLength suite → (length k ≡ 16) ⊎ (length k ≡ 32)
-key-size Cs2 k e = inl e
-key-size Cs7 k e = inr e
-
 pub are-keys : (suite : Suite) (K : Keys) → KeysOfBytes K → keysFit (keyLength suite) K ≡ true → AreKeys K
 are-keys suite K y e =
     let s = fitting (keyLength suite) K e in
@@ -172,7 +135,7 @@ are-keys suite K y e =
 
 pub fresh-live : (C : Ciphers) (K : Keys) (side : Side) (suite : Suite) → keysFit (keyLength suite) K ≡ true
     → Live C K side (fresh side suite (stored (K .enc)) (stored (K .mac)) (stored (K .rmac))) [] []
-unfolding chaining lastMac
+unfolding chaining chainingValues
 fresh-live C K side suite e =
     let s = fitting (keyLength suite) K e in
     record {
@@ -188,17 +151,13 @@ fresh-live C K side suite e =
     }
 
 begins : (C : Ciphers) (K : Keys) (hostSuite cardSuite : Suite) → keysFit (keyLength hostSuite) K ≡ true → keysFit (keyLength cardSuite) K ≡ true
-    → Invariant C K (start (fresh Host hostSuite (stored (K .enc)) (stored (K .mac)) (stored (K .rmac))) (fresh Card cardSuite (stored (K .enc)) (stored (K .mac)) (stored (K .rmac))))
+    → Invariant C K (start (fresh Host hostSuite (stored (K .enc)) (stored (K .mac)) (stored (K .rmac)))
+    (fresh Card cardSuite (stored (K .enc)) (stored (K .mac)) (stored (K .rmac))))
 begins C K hostSuite cardSuite h c =
     record {
       host-is = λ e. fresh-live C K Host hostSuite h;
       card-is = λ e. fresh-live C K Card cardSuite c;
-      s≤a = omega arith;
-      w≤r+1 = omega arith;
-      command-channel = channel-empty C (K .enc) (commands K);
-      response-channel = channel-empty C (K .enc) (responses K);
-      command-fields = tt;
-      response-fields = tt;
+      keeps = kept-empty (commands C K) (responses C K);
     }
 
 all-take : (n : ℕ) (calls : List Call) → AllBytes calls → AllBytes (take n calls)
@@ -210,5 +169,6 @@ pub agreement : (C : Ciphers) → Laws C → Agreement C
 agreement C L hostSuite cardSuite K k oh oc calls y n =
     let h : Fresh Host hostSuite K = opened Host hostSuite K oh in
     let c : Fresh Card cardSuite K = opened Card cardSuite K oc in
-    runs C K L (are-keys (h .suite) K k (h .fits)) (take n calls) (start (opening Host hostSuite K .session) (opening Card cardSuite K .session)) (all-take n calls y)
+    runs C K L (are-keys (h .suite) K k (h .fits)) (take n calls)
+    (start (opening Host hostSuite K .session) (opening Card cardSuite K .session)) (all-take n calls y)
     (rw (h .is, c .is) (begins C K (h .suite) (c .suite) (h .fits) (c .fits)))

@@ -1,12 +1,11 @@
--- Demand 3: "after every call, with w commands wrapped, a accepted, s responses wrapped and r accepted, r ≤ s ≤ a ≤ w ≤ r + 1.
--- Each accepted command gave the data, header and Le (or its absence), and each accepted response the data and status, that the
--- other end wrapped at the same place in the order." In the terms of protocol analysis: injective agreement. Assumes nothing.
+-- Demand 3, of the calls as defined: after every call of every list the transcript agrees, or some call broke a MAC.
+-- In the terms of protocol analysis: injective agreement.
 use mathlib.Core.Path.{_≡_}
 use mathlib.Core.Logic.{_⊎_}
-use mathlib.Core.List.{List, [], _∷_, _++_, map, List·Memᴰ}
-use Prim.Native.Nat.{ℕ, _+_, _≤_, _<_}
+use mathlib.Core.List.{List, [], _∷_, List·Memᴰ}
+use Prim.Native.Nat.{ℕ, _<_}
 use lib.ListN.{length, take, getD}
-use Rattle.octets.specs.Bytes.{Bytes, IsBytes, zeros}
+use Rattle.octets.specs.Bytes.{Bytes, IsBytes}
 use Rattle.field_read.specs.Field.{macOf}
 use Rattle.session_suite.specs.StoredKeys.{KeysOfBytes, Keys}
 use Rattle.session.specs.Opening.{opening}
@@ -14,36 +13,20 @@ use Rattle.session.specs.declared.Side.the-variants.{Host, Card}
 use Rattle.session.specs.declared.Opening.the-variants.{Opened as Done}
 use Rattle.message_ciphers.specs.Ciphers.{Ciphers}
 use Rattle.message_answer.specs.Answer.{Answer, refused, gave}
-use Rattle.message_protocol.specs.Transcript.{Call, wrapCommand, unwrapCommand, wrapResponse, unwrapResponse, close, sideOf, Gives, does, Entry, messages, inputs, Transcript, Direction, commands, responses, encrypted, commandRead, responseRead, acceptedCommand, acceptedResponse, State, sessionAt, step, run, start}
+use Rattle.message_exchange.specs.Exchange as exchange
+use Rattle.message_exchange.specs.Exchange.{inputs}
+use Rattle.message_protocol.specs.Transcript.{Call, wrapCommand, unwrapCommand, wrapResponse, unwrapResponse, close, sideOf, Gives, does, Transcript, chainingValues, commands, responses, commandRead, responseRead, acceptedCommand, acceptedResponse, State, sessionAt, step, run, start}
 
 -- ---- what holds of a transcript
 
--- each field that a wrap handed out is the writing of its entry's objects, with the first 8 bytes of its input's full MAC
-abbrev pub Written : {H : Type 0} → Ciphers → Bytes → Direction H → List (Entry H) → List (Entry H) → List Bytes → Type 0
-Written C enc D before [] [] = Unit {0}
-Written C enc D before [] (f ∷ fields) = ⊥
-Written C enc D before (e ∷ log) [] = ⊥
-Written C enc D before (e ∷ log) (f ∷ fields) =
-    (f ≡ D .field (e .message .header) (encrypted C D enc (e .message) before) (take 8 (C .mac (D .key) (e .input))))
-    × Written C enc D (before ++ e ∷ []) log fields
-
-pub record Agrees (C : Ciphers) (K : Keys) (t : Transcript) : Type 0 where
-  pub r≤s : length (t .responsesAccepted) ≤ length (t .responsesWrapped)
-  pub s≤a : length (t .responsesWrapped) ≤ length (t .commandsAccepted)
-  pub a≤w : length (t .commandsAccepted) ≤ length (t .commandsWrapped)
-  pub w≤r+1 : length (t .commandsWrapped) ≤ length (t .responsesAccepted) + 1
-  pub commandsAgree : messages (t .commandsAccepted) ≡ take (length (t .commandsAccepted)) (messages (t .commandsWrapped))
-  pub responsesAgree : messages (t .responsesAccepted) ≡ take (length (t .responsesAccepted)) (messages (t .responsesWrapped))
-  pub commandsWritten : Written C (K .enc) (commands K) [] (t .commandsWrapped) (t .commandFields)
-  pub responsesWritten : Written C (K .enc) (responses K) [] (t .responsesWrapped) (t .responseFields)
+-- r ≤ s ≤ a ≤ w ≤ r + 1; each accepted message is the one that the other end wrapped at the same place; and each field
+-- that was handed out is that of its entry
+abbrev pub Agrees : Ciphers → Keys → Transcript → Type 0
+Agrees C K t = exchange.Agrees (commands C K) (responses C K) t
 
 -- ---- where it may cease
 
--- the sender's chaining values so far: the zero start, and the full MAC of each input
-unfoldable pub chainingValues : Ciphers → Bytes → List Bytes → List Bytes
-chainingValues C key sent = zeros 16 ∷ map (C .mac key) sent
-
--- two of them are equal
+-- two of a sender's chaining values so far, the zero start included, are equal
 pub record Collision (C : Ciphers) (key : Bytes) (sent : List Bytes) : Type 0 where
   pub i : ℕ
   pub j : ℕ
@@ -51,8 +34,8 @@ pub record Collision (C : Ciphers) (key : Bytes) (sent : List Bytes) : Type 0 wh
   pub within : j < length (chainingValues C key sent)
   pub equal : getD (chainingValues C key sent) i [] ≡ getD (chainingValues C key sent) j []
 
--- an acceptance whose '8E' holds the first 8 bytes of its input's full MAC, and the sender had not yet MACed that input,
--- or two of its chaining values are equal
+-- an acceptance whose '8E' holds the first 8 bytes of its input's full MAC, and the sender had not yet MACed that input
+-- in that direction, or two of its chaining values there are equal
 pub record MacBreak (C : Ciphers) (key : Bytes) (sent : List Bytes) (input mac : Bytes) : Type 0 where
   pub right : mac ≡ take 8 (C .mac key input)
   pub cause : (List·Memᴰ input sent → ⊥) ⊎ Collision C key sent
@@ -62,25 +45,26 @@ module _ (C : Ciphers) (K : Keys) where
   abbrev pub Breaks : Transcript → (c : Call) → Gives c → Type 0
   Breaks t (wrapCommand side m room) field = ⊥
   Breaks t (unwrapCommand side ins p1 p2 field room) g =
-      MacBreak C (K .mac) (inputs (t .commandsWrapped)) (acceptedCommand C K ins p1 p2 field g (t .commandsAccepted) .input)
-      (macOf field (commandRead ins field))
+      let e = acceptedCommand C K ins p1 p2 field g (t .commands .accepted) in
+      MacBreak C (K .mac) (inputs (t .commands .wrapped)) (e .input) (macOf field (commandRead ins field))
   Breaks t (wrapResponse side m room) field = ⊥
   Breaks t (unwrapResponse side sw field room) m =
-      MacBreak C (K .rmac) (inputs (t .responsesWrapped)) (acceptedResponse C K sw field m (t .responsesAccepted) .input)
-      (macOf field (responseRead sw field))
+      let e = acceptedResponse C K sw field m (t .responses .accepted) in
+      MacBreak C (K .rmac) (inputs (t .responses .wrapped)) (e .input) (macOf field (responseRead sw field))
   Breaks t (close side) u = ⊥
 
   abbrev pub BreaksIn : Transcript → (c : Call) → Answer (Gives c) → Type 0
   BreaksIn t c (refused r) = ⊥
   BreaksIn t c (gave a) = Breaks t c a
 
+-- ---- the demand, of the calls as defined
+
+module _ (C : Ciphers) (K : Keys) where
   -- one of the calls is such an acceptance
   abbrev pub Excepted : State → List Call → Type 0
   Excepted st [] = ⊥
   Excepted st (c ∷ cs) =
-      BreaksIn (st .transcript) c (does C (sessionAt st (sideOf c)) c .answer) ⊎ Excepted (step C K st c) cs
-
--- ---- the demand
+      BreaksIn C K (st .transcript) c (does C (sessionAt st (sideOf c)) c .answer) ⊎ Excepted (step C K st c) cs
 
 -- data that is wrapped is bytes
 abbrev pub CallBytes : Call → Type 0

@@ -1,4 +1,3 @@
-pub mod Reading
 pub mod Command
 pub mod Response
 pub mod Transcript

@@ -1,15 +1,13 @@
--- Document 01: the card wraps a response, and the host unwraps it. Assumes nothing.
+-- Document 01: the card wraps a response, and the host unwraps it.
 use Prim.Native.Nat.{ℕ}
 use lib.Dec.{leb, ltb}
 use lib.ListN.{length, take}
 use Rattle.octets.specs.Bytes.{Bytes}
-use Rattle.message_mac.specs.Same.{same}
-use Rattle.field_read.specs.Field.{readField, ciphertextOf, coveredOf, macOf}
-use Rattle.field_read.specs.declared.Objects.{Objects}
+use Rattle.field_read.specs.Field.{readField, coveredOf}
 use Rattle.field_write.specs.Objects.{responseObjects, responseField}
 use Rattle.field_size.specs.Lengths.{responseLength}
 use Rattle.message_mac.specs.MacInput.{responseMacInput}
-use Rattle.refusal.specs.declared.Refusal.the-variants.{SessionClosed, OutOfTurn, NotPermitted, TooLong, BufferTooSmall, BadMac, Unprotected}
+use Rattle.refusal.specs.declared.Refusal.the-variants.{SessionClosed, OutOfTurn, NotPermitted, TooLong, BufferTooSmall, Unprotected}
 use Rattle.session_turn.specs.Transitions.{responseTaken}
 use Rattle.session_suite.specs.StoredKeys.{keyIn}
 use Rattle.session_turn.specs.Turn.{isTurn}
@@ -22,13 +20,14 @@ use Rattle.message_answer.specs.Message.{StatusWord, Response, maxResponseData,
 use Rattle.message_permission.specs.Permission.{statusPermitted, responseWanted}
 use Rattle.message_counter.specs.Counter.{responseCounter}
 use Rattle.message_answer.specs.Answer.{Answer, gave, require_else_⨾_, _and-then_, Outcome, Out, concluded}
-use Rattle.message_protocol.specs.Reading.{objectsOf, textOf}
+use Rattle.message_verify.specs.Reading.{objectsOf}
+use Rattle.message_verify.specs.VerifiedText.{Received, receivedIn, verifiedText}
 
 -- the tests of a wrap, of a response with n bytes of data
 unfoldable pub wrapResponseChecks : Session → StatusWord → ℕ → ℕ → Answer (Unit {0})
 wrapResponseChecks s sw n room =
     require countsAsOpen s else SessionClosed ⨾
-    require isTurn Card Pending s else OutOfTurn ⨾
+    require isTurn Card Pending (s .side) (s .phase) else OutOfTurn ⨾
     require statusPermitted sw else NotPermitted ⨾
     require leb n maxResponseData else TooLong ⨾
     require leb (responseLength n) room else BufferTooSmall (responseLength n) ⨾
@@ -38,10 +37,14 @@ wrapResponseChecks s sw n room =
 unfoldable pub unwrapResponseChecks : Session → StatusWord → ℕ → Answer (Unit {0})
 unwrapResponseChecks s sw n =
     require countsAsOpen s else SessionClosed ⨾
-    require isTurn Host Pending s else OutOfTurn ⨾
+    require isTurn Host Pending (s .side) (s .phase) else OutOfTurn ⨾
     require ltb 0 n else Unprotected (sw .sw1) (sw .sw2) ⨾
     require leb n maxResponseField else TooLong ⨾
     gave tt
+
+-- the host takes all 16 bytes of the full MAC as the next chaining value
+unfoldable pub responseAccepted : Session → StatusWord → Bytes → Bytes → Outcome Response
+responseAccepted s sw full d = record { gives = record { header = sw; payload = d }; next = responseTaken s full }
 
 module _ (C : Ciphers) where
   -- the full MAC under the session's SK_RMAC, over its chaining value and the field's bytes before '8E'
@@ -64,23 +67,16 @@ module _ (C : Ciphers) where
       gave (responseWrapped s (m .header) (responseCiphertext s (m .payload))))
       )
 
-  -- the host takes all 16 bytes of the full MAC as the next chaining value
-  unfoldable pub responseAccepted : Session → StatusWord → Bytes → Objects → Bytes → Outcome Response
-  responseAccepted s sw field o d =
-      record { gives = record { header = sw; payload = d }; next = responseTaken s (responseMac s (coveredOf field o)) }
-
-  -- the stages behind the reading: room, MAC, text
-  unfoldable pub openResponse : Session → StatusWord → Bytes → ℕ → Objects → Answer (Outcome Response)
-  openResponse s sw field room o =
-      require leb (o .«ciphertext_len») room else BufferTooSmall (o .«ciphertext_len») ⨾
-      require same (macOf field o) (take 8 (responseMac s (coveredOf field o))) else BadMac ⨾
-      textOf (C .decrypt (keyIn (s .suite) (s .«sk_enc»)) (responseCounter (s .count)) (ciphertextOf field o)) and-then (λ d.
-      gave (responseAccepted s sw field o d))
+  -- the stages behind the reading, by the status word, the full MAC that was computed, what was received, and the buffer's size
+  unfoldable pub openResponse : Session → StatusWord → Bytes → Received → ℕ → Answer (Outcome Response)
+  openResponse s sw full r room =
+      verifiedText C (keyIn (s .suite) (s .«sk_enc»)) (responseCounter (s .count)) full r room and-then (λ d.
+      gave (responseAccepted s sw full d))
 
   unfoldable pub hostUnwraps : Session → StatusWord → Bytes → ℕ → Out Response
   hostUnwraps s sw field room =
       concluded s (
       unwrapResponseChecks s sw (length field) and-then (λ checked.
       objectsOf (readField (responseWanted sw) field) and-then (λ o.
-      openResponse s sw field room o))
+      openResponse s sw (responseMac s (coveredOf field o)) (receivedIn field o) room))
       )

@@ -1,15 +1,15 @@
 -- Document 01, "The list that demand 3 speaks of": the calls, and the transcript that is kept of them ("a book" there).
 -- Four logs, made from the calls' arguments and answers and the keys as given at opening, never from a session.
--- Assumes nothing.
-use mathlib.Core.List.{List, [], _∷_, _++_, map}
-use Prim.Native.Nat.{ℕ, suc}
-use lib.ListN.{length}
+-- Sessions come in only where the calls as defined are run, in the last part.
+use mathlib.Core.List.{List, [], _∷_, map}
+use Prim.Native.Nat.{ℕ}
+use lib.ListN.{length, getD}
 use Rattle.octets.specs.Bytes.{Bytes, zeros}
 use Rattle.field_read.specs.Field.{none, readField, coveredOf}
 use Rattle.field_read.specs.declared.Objects.{Objects}
 use Rattle.field_read.specs.declared.FieldRead.{FieldRead}
 use Rattle.field_read.specs.declared.FieldRead.the-variants.{Read, Malformed as BadField, Missing}
-use Rattle.field_write.specs.Objects.{commandObjects, responseObjects, commandField, responseField}
+use Rattle.field_write.specs.Objects.{commandObjects, responseObjects}
 use Rattle.message_mac.specs.MacInput.{responseMacInput}
 use Rattle.session.specs.Session.{closed}
 use Rattle.session_suite.specs.StoredKeys.{Keys}
@@ -17,29 +17,26 @@ use Rattle.session.specs.declared.Side.{Side}
 use Rattle.session.specs.declared.Side.the-variants.{Host, Card}
 use Rattle.session.specs.declared.Session.{Session}
 use Rattle.message_ciphers.specs.Ciphers.{Ciphers}
-use Rattle.message_answer.specs.Message.{CommandHeader, StatusWord, Message, Command, Response, maxCommandData, maxResponseData, CommandGiven}
+use Rattle.message_answer.specs.Message.{CommandHeader, StatusWord, header, Command, Response, CommandGiven}
 use Rattle.message_permission.specs.Permission.{commandWanted, responseWanted}
 use Rattle.message_counter.specs.Counter.{commandCounter, responseCounter}
 use Rattle.message_answer.specs.Answer.{Answer, refused, gave, Out}
+use Rattle.message_exchange.specs.Exchange as exchange
+use Rattle.message_exchange.specs.Exchange.{Entry, Log, inputs, Direction, wraps, accepts}
+pub use Rattle.message_exchange.specs.Exchange.{empty}
 use Rattle.message_protocol.specs.Command.{commandInput, headerRead, hostWraps, cardUnwraps}
 use Rattle.message_protocol.specs.Response.{cardWraps, hostUnwraps}
 
 -- ---- calls
 
--- the side that a call is made at, and its arguments but for the session; the last number is the size of the caller's buffer
+-- the side that a call is made at, and its arguments but for the session; the last number is the size of the caller's
+-- buffer
 pub data Call : Type 0 where
   wrapCommand : Side → Command → ℕ → Call
   unwrapCommand : Side → (ins p1 p2 : ℕ) → Bytes → ℕ → Call
   wrapResponse : Side → Response → ℕ → Call
   unwrapResponse : Side → StatusWord → Bytes → ℕ → Call
   close : Side → Call
-
-abbrev pub sideOf : Call → Side
-sideOf (wrapCommand side m room) = side
-sideOf (unwrapCommand side ins p1 p2 field room) = side
-sideOf (wrapResponse side m room) = side
-sideOf (unwrapResponse side sw field room) = side
-sideOf (close side) = side
 
 -- what a call gives where it is not refused
 abbrev pub Gives : Call → Type 0
@@ -49,89 +46,38 @@ Gives (wrapResponse side m room) = Bytes
 Gives (unwrapResponse side sw field room) = Response
 Gives (close side) = Unit {0}
 
--- the call made with a session
-unfoldable pub does : Ciphers → Session → (c : Call) → Out (Gives c)
-does C s (wrapCommand side m room) = hostWraps C s m room
-does C s (unwrapCommand side ins p1 p2 field room) = cardUnwraps C s ins p1 p2 field room
-does C s (wrapResponse side m room) = cardWraps C s m room
-does C s (unwrapResponse side sw field room) = hostUnwraps C s sw field room
-does C s (close side) = record { answer = gave tt; next = closed s }
+-- ---- the transcript
 
--- ---- logs
-
--- the message as handed in to a wrap or given by an unwrap, and its MAC input
-pub record Entry (H : Type 0) : Type 0 where
-  pub message : Message H
-  pub input : Bytes
-
-abbrev pub messages : {H : Type 0} → List (Entry H) → List (Message H)
-messages log = map (λ e. e .message) log
-
-abbrev pub inputs : {H : Type 0} → List (Entry H) → List Bytes
-inputs log = map (λ e. e .input) log
-
--- entry k, from 1, stands at place k; and the fields that the wraps handed out
-pub record Transcript : Type 0 where
-  pub commandsWrapped : List (Entry CommandHeader)
-  pub commandFields : List Bytes
-  pub commandsAccepted : List (Entry CommandHeader)
-  pub responsesWrapped : List (Entry StatusWord)
-  pub responseFields : List Bytes
-  pub responsesAccepted : List (Entry StatusWord)
-
--- a direction: its MAC key, its MAC input, its objects and field, its counter, and the most data
-pub record Direction (H : Type 0) : Type 0 where
-  pub key : Bytes
-  pub input : Bytes → H → Bytes → Bytes
-  pub objects : H → Bytes → Bytes
-  pub field : H → Bytes → Bytes → Bytes
-  pub counter : ℕ → Bytes
-  pub limit : ℕ
-
-abbrev pub commands : Keys → Direction CommandHeader
-commands K =
-    record {
-      key = K .mac;
-      input = commandInput;
-      objects = λ h c. commandObjects c (h .le);
-      field = λ h c mac. commandField c (h .le) mac;
-      counter = commandCounter;
-      limit = maxCommandData;
-    }
-
-abbrev pub responses : Keys → Direction StatusWord
-responses K =
-    record {
-      key = K .rmac;
-      input = λ mcv sw covered. responseMacInput mcv covered;
-      objects = λ sw c. responseObjects c (sw .sw1) (sw .sw2);
-      field = λ sw c mac. responseField c (sw .sw1) (sw .sw2) mac;
-      counter = responseCounter;
-      limit = maxResponseData;
-    }
+abbrev pub Transcript : Type 0
+Transcript = exchange.Transcript CommandHeader StatusWord
 
 module _ (C : Ciphers) where
-  -- the full MAC of the last input, and z where there is none
-  unfoldable pub lastMac : Bytes → Bytes → List Bytes → Bytes
-  lastMac key z [] = z
-  lastMac key z (i ∷ is) = lastMac key (C .mac key i) is
+  -- a sender's chaining values: the zero start, and the full MAC of each input
+  unfoldable pub chainingValues : Bytes → List Bytes → List Bytes
+  chainingValues key sent = zeros 16 ∷ map (C .mac key) sent
 
-  -- the chaining value that the next entry's input begins with: zeros at place 1
-  unfoldable pub chaining : {H : Type 0} → Bytes → List (Entry H) → Bytes
-  chaining key log = lastMac key (zeros 16) (inputs log)
+  -- the last of them, with which the next entry's input begins
+  unfoldable pub chaining : {H : Type 0} → Bytes → Log H → Bytes
+  chaining key log = getD (chainingValues key (inputs log)) (length log) []
 
-  module _ {H : Type 0} (D : Direction H) where
-    -- a wrap's encrypted data is made with the counter of its place
-    unfoldable pub encrypted : Bytes → Message H → List (Entry H) → Bytes
-    encrypted enc m log = C .encrypt enc (D .counter (suc (length log))) (m .payload)
+module _ (C : Ciphers) (K : Keys) where
+  abbrev pub commands : Direction CommandHeader
+  commands =
+      record {
+        encrypt = λ place d. C .encrypt (K .enc) (commandCounter place) d;
+        objects = λ h c. commandObjects c (h .le);
+        input = λ log h covered. commandInput (chaining C (K .mac) log) h covered;
+        mac = C .mac (K .mac);
+      }
 
-    unfoldable pub wrapped : Bytes → Message H → List (Entry H) → Entry H
-    wrapped enc m log =
-        record { message = m; input = D .input (chaining (D .key) log) (m .header) (D .objects (m .header) (encrypted enc m log)) }
-
-    -- an unwrap's input is of the bytes received
-    unfoldable pub received : H → Bytes → Message H → List (Entry H) → Entry H
-    received h covered m log = record { message = m; input = D .input (chaining (D .key) log) h covered }
+  abbrev pub responses : Direction StatusWord
+  responses =
+      record {
+        encrypt = λ place d. C .encrypt (K .enc) (responseCounter place) d;
+        objects = λ sw c. responseObjects c (sw .sw1) (sw .sw2);
+        input = λ log sw covered. responseMacInput (chaining C (K .rmac) log) covered;
+        mac = C .mac (K .rmac);
+      }
 
 -- the objects of a field; of one that is not accepted, none
 abbrev pub objectsRead : FieldRead → Objects
@@ -146,56 +92,31 @@ abbrev pub responseRead : StatusWord → Bytes → Objects
 responseRead sw field = objectsRead (readField (responseWanted sw) field)
 
 module _ (C : Ciphers) (K : Keys) where
-  unfoldable pub acceptedCommand : ℕ → ℕ → ℕ → Bytes → CommandGiven → List (Entry CommandHeader) → Entry CommandHeader
-  acceptedCommand ins p1 p2 field g =
+  -- an unwrap after a log: its input is of the bytes received
+  unfoldable pub acceptedCommand : ℕ → ℕ → ℕ → Bytes → CommandGiven → Log CommandHeader → Entry CommandHeader
+  acceptedCommand ins p1 p2 field g log =
       let o = commandRead ins field in
-      received C (commands K) (headerRead ins p1 p2 o) (coveredOf field o)
-      (record { header = record { ins = ins; p1 = p1; p2 = p2; le = g .le }; payload = g .payload })
+      record {
+        message = record { header = header ins p1 p2 (g .le); payload = g .payload };
+        input = commands C K .input log (headerRead ins p1 p2 o) (coveredOf field o);
+      }
 
-  unfoldable pub acceptedResponse : StatusWord → Bytes → Response → List (Entry StatusWord) → Entry StatusWord
-  acceptedResponse sw field m = received C (responses K) sw (coveredOf field (responseRead sw field)) m
-
-  abbrev pub add : {H : Type 0} → (List (Entry H) → Entry H) → List (Entry H) → List (Entry H)
-  add entry log = log ++ entry log ∷ []
+  unfoldable pub acceptedResponse : StatusWord → Bytes → Response → Log StatusWord → Entry StatusWord
+  acceptedResponse sw field m log =
+      record { message = m; input = responses C K .input log sw (coveredOf field (responseRead sw field)) }
 
   -- what a call that was not refused adds
   unfoldable pub noted : Transcript → (c : Call) → Gives c → Transcript
   noted t (wrapCommand side m room) field =
-      record {
-        commandsWrapped = add (wrapped C (commands K) (K .enc) m) (t .commandsWrapped);
-        commandFields = t .commandFields ++ field ∷ [];
-        commandsAccepted = t .commandsAccepted;
-        responsesWrapped = t .responsesWrapped;
-        responseFields = t .responseFields;
-        responsesAccepted = t .responsesAccepted;
-      }
+      record { commands = wraps (commands C K) m field (t .commands); responses = t .responses }
   noted t (unwrapCommand side ins p1 p2 field room) g =
-      record {
-        commandsWrapped = t .commandsWrapped;
-        commandFields = t .commandFields;
-        commandsAccepted = add (acceptedCommand ins p1 p2 field g) (t .commandsAccepted);
-        responsesWrapped = t .responsesWrapped;
-        responseFields = t .responseFields;
-        responsesAccepted = t .responsesAccepted;
-      }
+      let e = acceptedCommand ins p1 p2 field g (t .commands .accepted) in
+      record { commands = accepts e (t .commands); responses = t .responses }
   noted t (wrapResponse side m room) field =
-      record {
-        commandsWrapped = t .commandsWrapped;
-        commandFields = t .commandFields;
-        commandsAccepted = t .commandsAccepted;
-        responsesWrapped = add (wrapped C (responses K) (K .enc) m) (t .responsesWrapped);
-        responseFields = t .responseFields ++ field ∷ [];
-        responsesAccepted = t .responsesAccepted;
-      }
+      record { commands = t .commands; responses = wraps (responses C K) m field (t .responses) }
   noted t (unwrapResponse side sw field room) m =
-      record {
-        commandsWrapped = t .commandsWrapped;
-        commandFields = t .commandFields;
-        commandsAccepted = t .commandsAccepted;
-        responsesWrapped = t .responsesWrapped;
-        responseFields = t .responseFields;
-        responsesAccepted = add (acceptedResponse sw field m) (t .responsesAccepted);
-      }
+      let e = acceptedResponse sw field m (t .responses .accepted) in
+      record { commands = t .commands; responses = accepts e (t .responses) }
   noted t (close side) u = t
 
   -- a refused call adds nothing
@@ -203,10 +124,22 @@ module _ (C : Ciphers) (K : Keys) where
   entered t c (refused r) = t
   entered t c (gave a) = noted t c a
 
-abbrev pub empty : Transcript
-empty = record { commandsWrapped = []; commandFields = []; commandsAccepted = []; responsesWrapped = []; responseFields = []; responsesAccepted = [] }
+-- ---- runs of the calls as defined
 
--- ---- runs
+-- the call made with a session
+unfoldable pub does : Ciphers → Session → (c : Call) → Out (Gives c)
+does C s (wrapCommand side m room) = hostWraps C s m room
+does C s (unwrapCommand side ins p1 p2 field room) = cardUnwraps C s ins p1 p2 field room
+does C s (wrapResponse side m room) = cardWraps C s m room
+does C s (unwrapResponse side sw field room) = hostUnwraps C s sw field room
+does C s (close side) = record { answer = gave tt; next = closed s }
+
+abbrev pub sideOf : Call → Side
+sideOf (wrapCommand side m room) = side
+sideOf (unwrapCommand side ins p1 p2 field room) = side
+sideOf (wrapResponse side m room) = side
+sideOf (unwrapResponse side sw field room) = side
+sideOf (close side) = side
 
 -- the two sessions, each the one that the call before it at its side left, and the transcript
 pub record State : Type 0 where

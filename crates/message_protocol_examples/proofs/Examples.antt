@@ -7,7 +7,7 @@ use mathlib.Core.Bool.{Bool, true, false, _&&_, _||_, not}
 use mathlib.Core.List.{List, [], _∷_, _++_, List·Memᴰ, List·Memᴰ·head, List·Memᴰ·tail, List·Memᴰ·not-nil}
 use Prim.Native.Nat.{ℕ, zero, suc, _<_}
 use native.Mathlib.Omega.{arith}
-use Rattle.message_ciphers.proofs.ByteLists.{bytes-nil, bytes-cons}
+use Rattle.octets.proofs.ByteStrings.{bytes-nil, bytes-cons}
 use Rattle.message_protocol.proofs.Runs.{agreement}
 use borrow.Author.Tests.{ltb-true}
 use lib.Dec.{ltb}
@@ -34,20 +34,21 @@ use Rattle.session.specs.Opening.{openSuite, opening}
 use Rattle.session.specs.declared.Side.the-variants.{Host, Card}
 use Rattle.message_ciphers.specs.Ciphers.{Ciphers}
 use Rattle.message_ciphers.specs.Aes.{dataIn}
-use Rattle.message_protocol_examples.proofs.ToyCiphers.{toyHash, toyMac, xorAll, mask, toyEncrypt, toyDecrypt, toy, toy-laws}
+use Rattle.message_ciphers.specs.Toy.{toyHash, toyMac, xorAll, mask, toyEncrypt, toyDecrypt, toy, flat}
+use Rattle.message_ciphers.proofs.ToyLaws.{toy-laws}
 use Rattle.message_answer.specs.Message.{CommandHeader, StatusWord, Command, Response}
 use Rattle.message_permission.specs.Permission.{insPermitted, leNeed, dataNeed, commandPermitted, statusPermitted, commandWanted, responseWanted}
-use Rattle.message_counter.specs.Counter.{bigEndian, commandCounter, responseCounter}
-use Rattle.message_answer.specs.Answer.{Answer, refused, gave, require_else_⨾_, _and-then_, afterRefusal, concluded}
-use Rattle.message_protocol.specs.Reading.{objectsOf, textOf}
+use Rattle.octets_numbers.specs.BigEndian.{bigEndian}
+use Rattle.message_counter.specs.Counter.{commandCounter, responseCounter}
+use Rattle.message_answer.specs.Answer.{Answer, refused, gave, require_else_⨾_, _and-then_, concluded}
+use Rattle.message_answer.specs.Outcome.{afterRefusal}
+use Rattle.message_verify.specs.Reading.{objectsOf, textOf}
+use Rattle.message_verify.specs.VerifiedText.{verifiedText}
+use Rattle.message_exchange.specs.Exchange.{Entry, messages, wrapEntry, fieldOf as entryField, fieldsFrom}
 use Rattle.message_protocol.specs.Command.{commandInput, wrapCommandChecks, unwrapCommandChecks, commandMac, commandCiphertext, commandWrapped, commandAccepted, hostWraps, openCommand, cardUnwraps}
 use Rattle.message_protocol.specs.Response.{wrapResponseChecks, unwrapResponseChecks, responseMac, responseCiphertext, responseWrapped, responseAccepted, cardWraps, openResponse, hostUnwraps}
-use Rattle.message_protocol.specs.Transcript.{Call, wrapCommand, unwrapCommand, wrapResponse, unwrapResponse, close, Entry, messages, Transcript, lastMac, chaining, encrypted, wrapped, received, acceptedCommand, acceptedResponse, noted, entered, State, moved, does, step, run, start}
-use Rattle.message_protocol.specs.Agreement.{Agrees, chainingValues, MacBreak, Excepted, AllBytes}
-
--- a MAC that is always zeros
-flat : Ciphers
-flat = record { mac = λ k m. zeros 16; encrypt = toyEncrypt; decrypt = toyDecrypt }
+use Rattle.message_protocol.specs.Transcript.{Call, wrapCommand, unwrapCommand, wrapResponse, unwrapResponse, close, Transcript, chainingValues, chaining, acceptedCommand, acceptedResponse, noted, entered, State, moved, does, step, run, start}
+use Rattle.message_protocol.specs.Agreement.{Agrees, MacBreak, Excepted, AllBytes}
 
 -- ---- messages
 
@@ -95,7 +96,7 @@ short C = let first = exchange C begin verify one-byte in first ++ exchange C (r
 
 counts : Transcript → List ℕ
 counts t =
-    length (t .commandsWrapped) ∷ length (t .commandsAccepted) ∷ length (t .responsesWrapped) ∷ length (t .responsesAccepted) ∷ []
+    length (t .commands .wrapped) ∷ length (t .commands .accepted) ∷ length (t .responses .wrapped) ∷ length (t .responses .accepted) ∷ []
 
 -- ---- when chaining values are distinct
 
@@ -247,20 +248,32 @@ reply = record { message = okay; input = [] }
 
 two-outstanding : Transcript
 two-outstanding =
-    record { commandsWrapped = entry ∷ entry ∷ []; commandFields = []; commandsAccepted = []; responsesWrapped = []; responseFields = []; responsesAccepted = [] }
+    record {
+      commands = record { wrapped = entry ∷ entry ∷ []; fields = []; accepted = [] };
+      responses = record { wrapped = []; fields = []; accepted = [] };
+    }
 
 answer-to-nothing : Transcript
 answer-to-nothing =
-    record { commandsWrapped = entry ∷ []; commandFields = []; commandsAccepted = []; responsesWrapped = reply ∷ []; responseFields = []; responsesAccepted = [] }
+    record {
+      commands = record { wrapped = entry ∷ []; fields = []; accepted = [] };
+      responses = record { wrapped = reply ∷ []; fields = []; accepted = [] };
+    }
 
 -- one wrapped, and no bytes handed out for it
 field-lost : Transcript
 field-lost =
-    record { commandsWrapped = entry ∷ []; commandFields = [] ∷ []; commandsAccepted = []; responsesWrapped = []; responseFields = []; responsesAccepted = [] }
+    record {
+      commands = record { wrapped = entry ∷ []; fields = [] ∷ []; accepted = [] };
+      responses = record { wrapped = []; fields = []; accepted = [] };
+    }
 
 response-field-lost : Transcript
 response-field-lost =
-    record { commandsWrapped = entry ∷ []; commandFields = []; commandsAccepted = entry ∷ []; responsesWrapped = reply ∷ []; responseFields = [] ∷ []; responsesAccepted = [] }
+    record {
+      commands = record { wrapped = entry ∷ []; fields = []; accepted = entry ∷ [] };
+      responses = record { wrapped = reply ∷ []; fields = [] ∷ []; accepted = [] };
+    }
 
 -- the data's length of the first response
 dataOf : List Response → ℕ
@@ -291,15 +304,15 @@ sw1Of (m ∷ ms) = m .header .sw1
 
 record Computed : Type 0 where
   counted : counts (run toy keys begin (two toy) .transcript) ≡ 2 ∷ 2 ∷ 2 ∷ 2 ∷ []
-  commands-given : messages (run toy keys begin (two toy) .transcript .commandsAccepted) ≡ verify ∷ getData ∷ []
-  responses-given : messages (run toy keys begin (two toy) .transcript .responsesAccepted) ≡ okay ∷ certificate ∷ []
+  commands-given : messages (run toy keys begin (two toy) .transcript .commands .accepted) ≡ verify ∷ getData ∷ []
+  responses-given : messages (run toy keys begin (two toy) .transcript .responses .accepted) ≡ okay ∷ certificate ∷ []
   -- two exchanges, every byte that is handed out: the keys, the counters, the chaining values and the order of the MAC input
-  command-fields : run toy keys begin (short toy) .transcript .commandFields
+  command-fields : run toy keys begin (short toy) .transcript .commands .fields
       ≡ (0x87 ∷ 0x11 ∷ 0x01 ∷ 0xB5 ∷ 0xB6 ∷ 0xB2 ∷ 0x03 ∷ 0x83 ∷ 0x83 ∷ 0x83 ∷ 0x83 ∷ 0x83 ∷ 0x83 ∷ 0x83 ∷ 0x83 ∷ 0x83 ∷ 0x83 ∷ 0x83 ∷ 0x83 ∷ 0x8E
       ∷ 0x08 ∷ 0x96 ∷ 0x9F ∷ 0xCF ∷ 0x4E ∷ 0xB5 ∷ 0xB4 ∷ 0x45 ∷ 0x52 ∷ [])
       ∷ (0x87 ∷ 0x11 ∷ 0x01 ∷ 0xF0 ∷ 0xAF ∷ 0x2C ∷ 0xAC ∷ 0xAC ∷ 0xAC ∷ 0xAC ∷ 0xAC ∷ 0xAC ∷ 0xAC ∷ 0xAC ∷ 0xAC ∷ 0xAC ∷ 0xAC ∷ 0xAC ∷ 0xAC ∷ 0x97
       ∷ 0x01 ∷ 0x00 ∷ 0x8E ∷ 0x08 ∷ 0x74 ∷ 0x0F ∷ 0x54 ∷ 0x94 ∷ 0x6B ∷ 0x0A ∷ 0x4E ∷ 0xD6 ∷ []) ∷ []
-  response-fields : run toy keys begin (short toy) .transcript .responseFields
+  response-fields : run toy keys begin (short toy) .transcript .responses .fields
       ≡ (0x87 ∷ 0x11 ∷ 0x01 ∷ 0x51 ∷ 0xD6 ∷ 0x56 ∷ 0x56 ∷ 0x56 ∷ 0x56 ∷ 0x56 ∷ 0x56 ∷ 0x56 ∷ 0x56 ∷ 0x56 ∷ 0x56 ∷ 0x56 ∷ 0x56 ∷ 0x56 ∷ 0x56 ∷ 0x99
       ∷ 0x02 ∷ 0x90 ∷ 0x00 ∷ 0x8E ∷ 0x08 ∷ 0x7B ∷ 0xD6 ∷ 0x22 ∷ 0x16 ∷ 0x22 ∷ 0x52 ∷ 0x76 ∷ 0xD6 ∷ [])
       ∷ (0x87 ∷ 0x11 ∷ 0x01 ∷ 0x78 ∷ 0xFF ∷ 0x7F ∷ 0x7F ∷ 0x7F ∷ 0x7F ∷ 0x7F ∷ 0x7F ∷ 0x7F ∷ 0x7F ∷ 0x7F ∷ 0x7F ∷ 0x7F ∷ 0x7F ∷ 0x7F ∷ 0x7F ∷ 0x99
@@ -334,7 +347,7 @@ record Computed : Type 0 where
   same-chaining-value : Excepted flat keys begin repeated
 
 computed : Computed
-unfolding toyHash toyMac xorAll mask toyEncrypt toyDecrypt toy keys verify getData okay certificate fieldOf begin exchange two one-byte short counts same padding pad paddedLength marked markBefore unpad lengthField readLength isShortest rank allowed rightSize rightSecond rightValue need_else_⨾_ withLength readObject notedObject ended onObject walk readField object encryptedData leObject statusWord macObject commandObjects responseObjects commandField responseField ciphertextLength encryptedDataLength commandLength responseLength encodedHeader commandMacInput responseMacInput allZero keysEnd keysZero mcvsZero keepsPhase valid countsAsOpen isTurn keysFit openSuite opening dataIn insPermitted leNeed dataNeed commandPermitted statusPermitted commandWanted responseWanted bigEndian commandCounter responseCounter require_else_⨾_ _and-then_ afterRefusal concluded objectsOf textOf commandInput wrapCommandChecks unwrapCommandChecks commandMac commandCiphertext commandWrapped commandAccepted hostWraps openCommand cardUnwraps wrapResponseChecks unwrapResponseChecks responseMac responseCiphertext responseWrapped responseAccepted cardWraps openResponse hostUnwraps lastMac chaining encrypted wrapped received acceptedCommand acceptedResponse noted entered moved does step run flat among distinct chainingValues forged received-as other-header other-data authenticate with-le more-commands more-responses header-changed data-changed le-changed status-changed one-wrapped never-wrapped check repeated mac-changed response-again mixed allBytes response-data-changed entry reply two-outstanding answer-to-nothing field-lost response-field-lost dataOf p2Of sizeOf leOf sw1Of
+unfolding toyHash toyMac xorAll mask toyEncrypt toyDecrypt toy keys verify getData okay certificate fieldOf begin exchange two one-byte short counts same padding pad paddedLength marked markBefore unpad lengthField readLength isShortest rank allowed rightSize rightSecond rightValue need_else_⨾_ withLength readObject notedObject ended onObject walk readField object encryptedData leObject statusWord macObject commandObjects responseObjects commandField responseField ciphertextLength encryptedDataLength commandLength responseLength encodedHeader commandMacInput responseMacInput allZero keysEnd keysZero mcvsZero keepsPhase valid countsAsOpen isTurn keysFit openSuite opening dataIn insPermitted leNeed dataNeed commandPermitted statusPermitted commandWanted responseWanted bigEndian commandCounter responseCounter require_else_⨾_ _and-then_ afterRefusal concluded objectsOf textOf commandInput wrapCommandChecks unwrapCommandChecks commandMac commandCiphertext commandWrapped commandAccepted hostWraps openCommand cardUnwraps wrapResponseChecks unwrapResponseChecks responseMac responseCiphertext responseWrapped responseAccepted cardWraps openResponse hostUnwraps chainingValues chaining wrapEntry entryField fieldsFrom acceptedCommand acceptedResponse noted entered moved does step run flat among distinct forged received-as other-header other-data authenticate with-le more-commands more-responses header-changed data-changed le-changed status-changed one-wrapped never-wrapped check repeated mac-changed response-again mixed allBytes response-data-changed entry reply two-outstanding answer-to-nothing field-lost response-field-lost dataOf p2Of sizeOf leOf sw1Of verifiedText
 computed =
     record {
       counted = refl;
@@ -353,8 +366,8 @@ computed =
       repeated-differs = λ v. let h = v .a≤w in omega (arith, h);
       at-most-one-outstanding = λ v. let h = v .w≤r+1 in omega (arith, h);
       no-answer-to-nothing = λ v. let h = v .s≤a in omega (arith, h);
-      field-differs = λ v. let e : _≡_ {A = ℕ} 0 10 = ap length (v .commandsWritten .0) in omega (arith, e);
-      response-field-differs = λ v. let e : _≡_ {A = ℕ} 0 14 = ap length (v .responsesWritten .0) in omega (arith, e);
+      field-differs = λ v. let e : _≡_ {A = ℕ} 0 10 = ap (λ (fs : List Bytes). length (getD fs 0 [])) (v .commandsWritten) in omega (arith, e);
+      response-field-differs = λ v. let e : _≡_ {A = ℕ} 0 14 = ap (λ (fs : List Bytes). length (getD fs 0 [])) (v .responsesWritten) in omega (arith, e);
       wrong-mac = λ b. let e = ap (λ (l : Bytes). getD l 0 0) (b .right) in omega (arith, e);
       mac-refused = refl;
       repetition-refused = refl;
@@ -369,8 +382,8 @@ computed =
             w≤r+1 = omega arith;
             commandsAgree = refl;
             responsesAgree = refl;
-            commandsWritten = (refl, tt);
-            responsesWritten = tt;
+            commandsWritten = refl;
+            responsesWritten = refl;
           };
       new-input = inl (record { right = refl; cause = inl (λ m. List·Memᴰ·not-nil m) });
       same-chaining-value = inr (inr (inr (inl (record { right = refl; cause = inr (record { i = 0; j = 1; i<j = omega arith; within = omega arith; equal = refl }) }))));

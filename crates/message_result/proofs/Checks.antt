@@ -1,11 +1,9 @@
 -- What the tests of a call answered, from what the function gave.
--- Assumes nothing.
 use mathlib.Core.Path.{_≡_, refl, ap}
 use Prim.Native.Nat.{ℕ}
 use native.Mathlib.Omega.{arith}
 use Rattle.refusal.specs.declared.Refusal.{Refusal}
-use Rattle.session.specs.declared.Session.{Session}
-use Rattle.message_answer.specs.Answer.{Answer, refused, gave, _and-then_, Outcome, notGiven, concluded}
+use Rattle.message_answer.specs.Answer.{Answer, refused, gave, _and-then_}
 use Rattle.message_result.specs.Results.{checked}
 use Rattle.message_result.specs.declared.Checked.the-variants.{Passed, Refused}
 
@@ -25,11 +23,11 @@ was-refused (gave u) r e = no-refusal e
 
 -- ---- a call that begins with tests
 
-module _ {A : Type 0} (s : Session) (a : Answer (Unit {0})) (more : Unit {0} → Answer (Outcome A)) where
-  pub tests-passed : checked a ≡ Passed → concluded s (a and-then more) ≡ concluded s (more tt)
+module _ {A : Type 0} (a : Answer (Unit {0})) (more : Unit {0} → Answer A) where
+  pub tests-passed : checked a ≡ Passed → (a and-then more) ≡ more tt
   unfolding _and-then_
-  tests-passed e = ap (λ (b : Answer (Unit {0})). concluded s (b and-then more)) (was-passed a e)
+  tests-passed e = ap (λ (b : Answer (Unit {0})). b and-then more) (was-passed a e)
 
-  pub test-refused : (r : Refusal) → checked a ≡ Refused r → concluded s (a and-then more) ≡ notGiven s r
-  unfolding _and-then_ concluded
-  test-refused r e = ap (λ (b : Answer (Unit {0})). concluded s (b and-then more)) (was-refused a r e)
+  pub test-refused : {r : Refusal} → checked a ≡ Refused r → (a and-then more) ≡ refused r
+  unfolding _and-then_
+  test-refused {r} e = ap (λ (b : Answer (Unit {0})). b and-then more) (was-refused a r e)

@@ -1,2 +1,2 @@
 pub mod Checks
-pub mod RefusedStage
+pub mod StageEnds

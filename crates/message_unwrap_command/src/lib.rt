@@ -10,17 +10,21 @@ use message_permission::command_wanted;
 use message_result::Checked;
 use message_result::CommandResult;
 use message_result::refused_command;
-use open::open_command;
+use open::open_objects;
 use refusal::Refusal;
 use session::Session;
+use session_rules::valid;
+ghost use mathlib.Core.Bool.{true};
 ghost use mathlib.Core.Path.{_≡_};
 ghost use Prim.Native.Nat.{_<_};
 ghost use lib.ListN.{length};
+ghost use Rattle.session_rules.specs.Valid.{valid};
+ghost use Rattle.message_answer.specs.Message.{commandLimit};
 ghost use Rattle.message_answer.specs.Answer.{concluded, buffer};
 ghost use Rattle.message_result.specs.Results.{commandResult};
 ghost use Rattle.message_unwrap_command.specs.UnwrapCommand.{unwrapCommand, readCommand, payloadOf};
 
-// Reads a command that passed its tests: refusals 7 and 8, then those of open_command.
+// Reads a command that passed its tests: refusals 7 and 8, then those of open_objects.
 fn read_command(
     session: Session,
     ins: u8,
@@ -29,15 +33,39 @@ fn read_command(
     field: &[u8],
     out: &mut [u8],
 ) -> CommandResult
-    requires { ⌜ session .count < 65535 ⌝ }
-    ensures result { λ r. ⌜ r ≡ commandResult (concluded session (readCommand session ins p1 p2 (now (field .entry)) (length (now (out .entry))))) ⌝ }
-    ensures output { λ _. ⌜ now (out .exit) ≡ buffer payloadOf (now (out .entry)) (concluded session (readCommand session ins p1 p2 (now (field .entry)) (length (now (out .entry)))) .answer) ⌝ }
+    requires { ⌜ session .count < commandLimit ⌝ }
+    ensures result { λ r. ⌜ r ≡ commandResult (concluded session (readCommand session ins p1 p2
+        (now (field .entry)) (length (now (out .entry))))) ⌝ }
+    ensures output { λ _. ⌜ now (out .exit) ≡ buffer payloadOf (now (out .entry)) (concluded session
+        (readCommand session ins p1 p2 (now (field .entry)) (length (now (out .entry)))) .answer) ⌝ }
 {
     let read = read_field(command_wanted(ins), field);
     match read {
-        FieldRead::Read(objects) => open_command(session, ins, p1, p2, field, objects, out),
+        FieldRead::Read(objects) => open_objects(session, ins, p1, p2, field, objects, out),
         FieldRead::Malformed(_) => refused_command(session, Refusal::Malformed),
         FieldRead::Missing(_, _) => refused_command(session, Refusal::MissingObject),
+    }
+}
+
+// Unwraps with a session that keeps the rules; the caller has tested that it does.
+pub fn unwrap_command_with_valid_session(
+    session: Session,
+    ins: u8,
+    p1: u8,
+    p2: u8,
+    field: &[u8],
+    out: &mut [u8],
+) -> CommandResult
+    requires { ⌜ valid session ≡ true ⌝ }
+    ensures result { λ r. ⌜ r ≡ commandResult (unwrapCommand session ins p1 p2
+        (now (field .entry)) (length (now (out .entry)))) ⌝ }
+    ensures output { λ _. ⌜ now (out .exit) ≡ buffer payloadOf (now (out .entry))
+        (unwrapCommand session ins p1 p2 (now (field .entry)) (length (now (out .entry))) .answer) ⌝ }
+{
+    let checked = unwrap_command_checks(session, ins, field.len());
+    match checked {
+        Checked::Passed => read_command(session, ins, p1, p2, field, out),
+        Checked::Refused(refusal) => refused_command(session, refusal),
     }
 }
 
@@ -50,12 +78,13 @@ pub fn unwrap_command(
     field: &[u8],
     out: &mut [u8],
 ) -> CommandResult
-    ensures result { λ r. ⌜ r ≡ commandResult (unwrapCommand session ins p1 p2 (now (field .entry)) (length (now (out .entry)))) ⌝ }
-    ensures output { λ _. ⌜ now (out .exit) ≡ buffer payloadOf (now (out .entry)) (unwrapCommand session ins p1 p2 (now (field .entry)) (length (now (out .entry))) .answer) ⌝ }
+    ensures result { λ r. ⌜ r ≡ commandResult (unwrapCommand session ins p1 p2
+        (now (field .entry)) (length (now (out .entry)))) ⌝ }
+    ensures output { λ _. ⌜ now (out .exit) ≡ buffer payloadOf (now (out .entry))
+        (unwrapCommand session ins p1 p2 (now (field .entry)) (length (now (out .entry))) .answer) ⌝ }
 {
-    let checked = unwrap_command_checks(session, ins, field.len());
-    match checked {
-        Checked::Passed => read_command(session, ins, p1, p2, field, out),
-        Checked::Refused(refusal) => refused_command(session, refusal),
+    if !valid(session) {
+        return refused_command(session, Refusal::SessionClosed);
     }
+    unwrap_command_with_valid_session(session, ins, p1, p2, field, out)
 }

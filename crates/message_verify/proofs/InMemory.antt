@@ -1,12 +1,11 @@
 -- The ciphertext in memory, decrypted in place, has the data of the message at its start; and what is then written out.
--- Assumes nothing.
 use mathlib.Core.Path.{_≡_, refl, sym, ap, ap₂, _∙_}
 use mathlib.Core.Option.{Option, none, some}
-use Prim.Native.Nat.{ℕ, _+_, _-_, _<_, _≤_}
+use Prim.Native.Nat.{ℕ, _<_, _≤_}
 use native.Mathlib.Nat.{zero-add}
 use native.Mathlib.Omega.{arith}
 use borrow.Author.Tests.{eq-eqb, ne-eqb}
-use lib.ListN.{length, take, drop, length-drop}
+use lib.ListN.{length, take, drop}
 use lib.Seq.{take-take, take-at, length-take-le}
 use Rattle.octets.specs.Bytes.{Bytes}
 use Rattle.octets.specs.Write.{over, Wrote}
@@ -24,7 +23,7 @@ use Rattle.message_ciphers.specs.Aes.{dataIn, decryptBlocks, decrypt}
 use Rattle.message_key.specs.SessionKeys.{keySize}
 use Rattle.message_key.proofs.SessionCiphers.{same-cipher, same-inv-cipher}
 use Rattle.message_answer.specs.Answer.{buffer}
-use Rattle.message_protocol.specs.Reading.{textOf}
+use Rattle.message_verify.specs.Reading.{textOf}
 use Rattle.message_verify.specs.Decryption.{dataLength, Decrypted, unpadded}
 
 -- the data at the start of a longer string
@@ -54,7 +53,8 @@ module _ (suite : Suite) (key counter ct : Bytes) (h : length key ≡ 32) where
   unfolding decrypt decryptBlocks
   decrypt-is there =
       rw (ne-eqb (length ct) 0 (λ z. omega (arith, z)))
-      (ap₂ (λ (f g : Bytes → Bytes). dataIn (cbcDecrypt g (f counter) ct) (unpad (cbcDecrypt g (f counter) ct))) (sym (same-cipher suite key h)) (sym (same-inv-cipher suite key h)))
+      (ap₂ (λ (f g : Bytes → Bytes). dataIn (cbcDecrypt g (f counter) ct) (unpad (cbcDecrypt g (f counter) ct)))
+      (sym (same-cipher suite key h)) (sym (same-inv-cipher suite key h)))
 
   -- copied, decrypted in place, and unpadded
   pub in-memory : 0 < length ct → (held copied text : Bytes) (n : ℕ) (r : Unpadded) → Wrote held 0 ct n copied
@@ -69,14 +69,6 @@ module _ (suite : Suite) (key counter ct : Bytes) (h : length key ≡ 32) where
       let l2 : length padded ≡ n = sym (ap length same) ∙ l in
       let front : take n text ≡ padded = ap (take n) (e ∙ ap (over copied) same) ∙ take-at padded (drop (length padded) copied) n l2 in
       rw (u ∙ ap unpad front, decrypt-is there, ← e0) (data-at-start text padded n front l2)
-
--- ---- the ciphertext stands in a field
-
-pub part-of : (xs : Bytes) (start n : ℕ) → take (start + n - start) (drop start xs) ≡ take n (drop start xs)
-part-of xs start n = let e : start + n - start ≡ n = omega arith in ap (λ (k : ℕ). take k (drop start xs)) e
-
-pub length-part : (xs : Bytes) (start n : ℕ) → start + n ≤ length xs → length (take (start + n - start) (drop start xs)) ≡ n
-length-part xs start n h = ap length (part-of xs start n) ∙ length-take-le n (drop start xs) (omega (arith, length-drop start xs))
 
 -- ---- written out
 

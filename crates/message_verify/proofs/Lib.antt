@@ -1,3 +1,4 @@
-pub mod Stages
-pub mod Opened
 pub mod InMemory
+pub mod Stages
+pub mod Received
+pub mod Opened

@@ -1,44 +1,15 @@
 -- An unwrap is these stages and then what it accepts: its result and its buffer, from what the stages answered. For the two unwraps.
--- Assumes nothing.
 use mathlib.Core.Path.{_≡_, refl, sym, ap, _∙_}
-use mathlib.Core.Bool.{Bool, true, false}
 use Prim.Native.Nat.{ℕ}
 use native.Mathlib.Omega.{arith}
-use lib.Dec.{leb}
-use lib.ListN.{length, take}
+use lib.ListN.{length}
 use Rattle.octets.specs.Bytes.{Bytes}
 use Rattle.octets.specs.Write.{over}
-use Rattle.message_mac.specs.Same.{same}
-use Rattle.field_read.specs.Field.{ciphertextOf, macOf}
-use Rattle.field_read.specs.declared.Objects.{Objects}
 use Rattle.refusal.specs.declared.Refusal.{Refusal}
-use Rattle.refusal.specs.declared.Refusal.the-variants.{BufferTooSmall, BadMac}
 use Rattle.session.specs.declared.Session.{Session}
-use Rattle.message_ciphers.specs.Aes.{decrypt}
-use Rattle.message_answer.specs.Answer.{Answer, refused, gave, require_else_⨾_, _and-then_, Outcome, Out, notGiven, given, concluded, buffer}
-use Rattle.message_protocol.specs.Reading.{textOf}
-use Rattle.message_verify.specs.VerifiedText.{verified, verifiedText}
+use Rattle.message_answer.specs.Answer.{Answer, refused, gave, _and-then_, Outcome, Out, notGiven, given, concluded, buffer}
+use Rattle.message_verify.specs.VerifiedText.{verified}
 use Rattle.message_verify.specs.declared.Verified.the-variants.{Data, Refused}
-
--- ---- the stages stand first
-
-module _ {A B : Type 0} where
-  test-first : (ok : Bool) (r : Refusal) (a : Answer A) (more : A → Answer B) → ((require ok else r ⨾ a) and-then more) ≡ (require ok else r ⨾ a and-then more)
-  unfolding require_else_⨾_ _and-then_
-  test-first true r a more = refl
-  test-first false r a more = refl
-
-pub stages-first : {B : Type 0} (key counter full field : Bytes) (room : ℕ) (o : Objects) (more : Bytes → Answer B)
-    → (verifiedText key counter full field room o and-then more)
-    ≡ (require leb (o .«ciphertext_len») room else BufferTooSmall (o .«ciphertext_len») ⨾
-    require same (macOf field o) (take 8 full) else BadMac ⨾
-    textOf (decrypt key counter (ciphertextOf field o)) and-then more)
-unfolding verifiedText
-stages-first key counter full field room o more =
-    test-first (leb (o .«ciphertext_len») room) (BufferTooSmall (o .«ciphertext_len»)) (require same (macOf field o) (take 8 full) else BadMac ⨾ textOf (decrypt key counter (ciphertextOf field o))) more
-    ∙ ap (λ (rest : Answer _). require leb (o .«ciphertext_len») room else BufferTooSmall (o .«ciphertext_len») ⨾ rest) (test-first (same (macOf field o) (take 8 full)) BadMac (textOf (decrypt key counter (ciphertextOf field o))) more)
-
--- ---- result and buffer
 
 no-data : {r : Refusal} {n : ℕ} {P : Type 0} → Refused r ≡ Data n → P
 no-data e = let z : _≡_ {A = ℕ} 0 1 = cc in let o : ⊥ = omega arith in absurd o
@@ -48,7 +19,9 @@ no-refusal e = let z : _≡_ {A = ℕ} 0 1 = cc in let o : ⊥ = omega arith in 
 
 module _ {G R : Type 0} (s : Session) (f : Out G → R) (writes : G → Bytes) (accepted : Bytes → Outcome G) (held out : Bytes) (result : R) where
   abbrev pub Opens : Answer Bytes → Type 0
-  Opens t = (result ≡ f (concluded s (t and-then (λ d. gave (accepted d))))) × (out ≡ buffer writes held (concluded s (t and-then (λ d. gave (accepted d))) .answer))
+  Opens t =
+      (result ≡ f (concluded s (t and-then (λ d. gave (accepted d)))))
+      × (out ≡ buffer writes held (concluded s (t and-then (λ d. gave (accepted d))) .answer))
 
   pub opens-refused : (t : Answer Bytes) (r : Refusal) → verified t ≡ Refused r → out ≡ buffer (λ (d : Bytes). d) held t → result ≡ f (notGiven s r) → Opens t
   unfolding _and-then_ concluded buffer

@@ -1,4 +1,4 @@
--- What a decryption leaves in memory, and what it answers. Assumes nothing.
+-- What a decryption leaves in memory, and what it answers.
 use mathlib.Core.Path.{_≡_}
 use mathlib.Core.Option.{Option, none, some}
 use Prim.Native.Nat.{ℕ, _≤_}

@@ -1,2 +1,3 @@
-pub mod VerifiedText
+pub mod Reading
 pub mod Decryption
+pub mod VerifiedText

@@ -9,21 +9,23 @@ use message_key::key_size;
 use octets::put_bytes;
 use session_suite::Suite;
 ghost use mathlib.Core.Path.{_≡_};
-ghost use Prim.Native.Nat.{_+_, _<_, _≤_, _%_};
-ghost use lib.ListN.{length, take, drop};
+ghost use Prim.Native.Nat.{_<_, _≤_, _%_};
+ghost use lib.ListN.{length, take};
+ghost use Rattle.message_answer.specs.Message.{maxResponseCiphertext};
 ghost use Rattle.octets.specs.Write.{over};
 ghost use Rattle.aes.specs.Aes.{invCiph};
 ghost use Rattle.mode_cbc.specs.Cbc.{cbcDecrypt};
 ghost use Rattle.session_suite.specs.StoredKeys.{keyIn};
 ghost use Rattle.message_ciphers.specs.Aes.{decrypt};
 ghost use Rattle.message_answer.specs.Answer.{buffer};
-ghost use Rattle.message_protocol.specs.Reading.{textOf};
+ghost use Rattle.message_verify.specs.Reading.{textOf};
 ghost use Rattle.message_verify.specs.Decryption.{Decrypted, unpadded};
 
 // CBC decryption of the first n bytes.
 fn decrypt_start(size: KeySize, w: &[[u8; 4]; 60], iv: [u8; 16], text: &mut [u8], n: usize)
     requires { ⌜ (n % 16 ≡ 0) × (n ≤ length (now text)) ⌝ }
-    ensures text { λ _. ⌜ now (text .exit) ≡ over (now (text .entry)) (cbcDecrypt (invCiph size (now (w .entry))) iv (take n (now (text .entry)))) ⌝ }
+    ensures text { λ _. ⌜ now (text .exit) ≡
+        over (now (text .entry)) (cbcDecrypt (invCiph size (now (w .entry))) iv (take n (now (text .entry)))) ⌝ }
     ensures length { λ _. ⌜ length (cbcDecrypt (invCiph size (now (w .entry))) iv (take n (now (text .entry)))) ≡ n ⌝ }
 {
     mode_cbc::decrypt(size, w, iv, &mut text[..n]);
@@ -37,8 +39,10 @@ fn decrypt_some(
     ciphertext: &[u8],
     text: &mut [u8],
 ) -> Unpadded
-    requires { ⌜ (0 < length (now ciphertext)) × (length (now ciphertext) % 16 ≡ 0) × (length (now ciphertext) ≤ length (now text)) ⌝ }
-    ensures { λ r. ⌜ Decrypted (now (text .exit)) (length (now (ciphertext .entry))) r (decrypt (keyIn suite «sk_enc») counter (now (ciphertext .entry))) ⌝ }
+    requires { ⌜ (0 < length (now ciphertext)) × (length (now ciphertext) % 16 ≡ 0)
+        × (length (now ciphertext) ≤ length (now text)) ⌝ }
+    ensures { λ r. ⌜ Decrypted (now (text .exit)) (length (now (ciphertext .entry))) r
+        (decrypt (keyIn suite «sk_enc») counter (now (ciphertext .entry))) ⌝ }
 {
     let w = expanded(suite, sk_enc);
     let size = key_size(suite);
@@ -57,7 +61,8 @@ fn decrypt_blocks(
     text: &mut [u8],
 ) -> Unpadded
     requires { ⌜ (length (now ciphertext) % 16 ≡ 0) × (length (now ciphertext) ≤ length (now text)) ⌝ }
-    ensures { λ r. ⌜ Decrypted (now (text .exit)) (length (now (ciphertext .entry))) r (decrypt (keyIn suite «sk_enc») counter (now (ciphertext .entry))) ⌝ }
+    ensures { λ r. ⌜ Decrypted (now (text .exit)) (length (now (ciphertext .entry))) r
+        (decrypt (keyIn suite «sk_enc») counter (now (ciphertext .entry))) ⌝ }
 {
     if ciphertext.len() == 0 {
         return Unpadded::Data(0);
@@ -75,9 +80,11 @@ fn decrypt_by_memory(
     text: &mut [u8],
     out: &mut [u8],
 ) -> Unpadded
-    requires { ⌜ (length (now ciphertext) % 16 ≡ 0) × (length (now ciphertext) ≤ length (now text)) × (length (now ciphertext) ≤ length (now out)) ⌝ }
+    requires { ⌜ (length (now ciphertext) % 16 ≡ 0) × (length (now ciphertext) ≤ length (now text))
+        × (length (now ciphertext) ≤ length (now out)) ⌝ }
     ensures answer { λ r. ⌜ r ≡ unpadded (decrypt (keyIn suite «sk_enc») counter (now (ciphertext .entry))) ⌝ }
-    ensures output { λ _. ⌜ now (out .exit) ≡ buffer (λ d. d) (now (out .entry)) (textOf (decrypt (keyIn suite «sk_enc») counter (now (ciphertext .entry)))) ⌝ }
+    ensures output { λ _. ⌜ now (out .exit) ≡ buffer (λ d. d) (now (out .entry))
+        (textOf (decrypt (keyIn suite «sk_enc») counter (now (ciphertext .entry)))) ⌝ }
 {
     let found = decrypt_blocks(suite, sk_enc, counter, ciphertext, text);
     let Unpadded::Data(n) = found else {
@@ -87,21 +94,20 @@ fn decrypt_by_memory(
     Unpadded::Data(n)
 }
 
-// Decrypts the ciphertext that stands in a field from index `start` on, and writes the data to the caller's buffer.
+// The same, in memory of this function's own.
 pub fn decrypt_text(
     suite: Suite,
     sk_enc: [u8; 32],
     counter: [u8; 16],
-    field: &[u8],
-    start: usize,
-    len: usize,
+    ciphertext: &[u8],
     out: &mut [u8],
 ) -> Unpadded
-    requires { ⌜ (start + len ≤ length (now field)) × (len % 16 ≡ 0) × (len ≤ 16384) × (len ≤ length (now out)) ⌝ }
-    ensures answer { λ r. ⌜ r ≡ unpadded (decrypt (keyIn suite «sk_enc») counter (take len (drop start (now (field .entry))))) ⌝ }
-    ensures output { λ _. ⌜ now (out .exit) ≡ buffer (λ d. d) (now (out .entry)) (textOf (decrypt (keyIn suite «sk_enc») counter (take len (drop start (now (field .entry)))))) ⌝ }
+    requires { ⌜ (length (now ciphertext) % 16 ≡ 0) × (length (now ciphertext) ≤ maxResponseCiphertext)
+        × (length (now ciphertext) ≤ length (now out)) ⌝ }
+    ensures answer { λ r. ⌜ r ≡ unpadded (decrypt (keyIn suite «sk_enc») counter (now (ciphertext .entry))) ⌝ }
+    ensures output { λ _. ⌜ now (out .exit) ≡ buffer (λ d. d) (now (out .entry))
+        (textOf (decrypt (keyIn suite «sk_enc») counter (now (ciphertext .entry)))) ⌝ }
 {
-    let end = start + len;
     let mut text = [0u8; 16384];
-    decrypt_by_memory(suite, sk_enc, counter, &field[start..end], &mut text, out)
+    decrypt_by_memory(suite, sk_enc, counter, ciphertext, &mut text, out)
 }

@@ -1,22 +1,22 @@
 // The tests of wrapping a command, in document 01's order.
 use field_size::command_length;
+use message_answer::MAX_COMMAND_DATA;
 use message_permission::command_permitted;
 use message_result::Checked;
 use refusal::Refusal;
 use session::Phase;
 use session::Session;
 use session::Side;
-use session_rules::counts_as_open;
+use session_rules::is_open;
 use session_turn::is_turn;
+ghost use mathlib.Core.Bool.{true};
 ghost use mathlib.Core.Path.{_≡_};
+ghost use Rattle.session_rules.specs.Valid.{valid};
 ghost use Rattle.message_result.specs.Results.{checked};
 ghost use Rattle.message_answer.specs.Message.{header};
 ghost use Rattle.message_protocol.specs.Command.{wrapCommandChecks};
 
-// The most data of a command.
-const MAX_COMMAND_DATA: usize = 2047;
-
-// Tests a wrap of a command with n bytes of data into a buffer of that size.
+// Tests a wrap, with a session that keeps the rules, of a command with n bytes of data into a buffer of that size.
 pub fn wrap_command_checks(
     session: Session,
     ins: u8,
@@ -26,13 +26,16 @@ pub fn wrap_command_checks(
     n: usize,
     room: usize,
 ) -> Checked
+    requires { ⌜ valid session ≡ true ⌝ }
     ensures { λ r. ⌜ r ≡ checked (wrapCommandChecks session (header ins p1 p2 le) n room) ⌝ }
 {
     let count = session.count;
-    if !counts_as_open(session) {
+    let side = session.side;
+    let phase = session.phase;
+    if !is_open(phase) {
         return Checked::Refused(Refusal::SessionClosed);
     }
-    if !is_turn(Side::Host, Phase::Ready, session) {
+    if !is_turn(Side::Host, Phase::Ready, side, phase) {
         return Checked::Refused(Refusal::OutOfTurn);
     }
     if !command_permitted(ins, p1, p2, le, n) {

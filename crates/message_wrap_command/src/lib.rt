@@ -7,15 +7,44 @@ use checks::wrap_command_checks;
 use message_result::Checked;
 use message_result::WrapResult;
 use message_result::refused_wrap;
+use refusal::Refusal;
 use session::Session;
+use session_rules::valid;
 use write::write_command;
+ghost use mathlib.Core.Bool.{true};
 ghost use mathlib.Core.Path.{_≡_};
 ghost use lib.ListN.{length};
 ghost use Rattle.octets.specs.Bytes.{IsBytes};
+ghost use Rattle.session_rules.specs.Valid.{valid};
 ghost use Rattle.message_answer.specs.Answer.{buffer};
 ghost use Rattle.message_protocol.specs.HonestDelivery.{Keyed};
 ghost use Rattle.message_result.specs.Results.{wrapResult};
 ghost use Rattle.message_wrap_command.specs.WrapCommand.{wrapCommand};
+
+// Wraps with a session that keeps the rules; the caller has tested that it does.
+// `bytes` and `keyed` are what the types say of the arguments; the demands use them.
+pub fn wrap_command_with_valid_session(
+    session: Session,
+    ins: u8,
+    p1: u8,
+    p2: u8,
+    le: bool,
+    data: &[u8],
+    out: &mut [u8],
+) -> WrapResult
+    requires { ⌜ valid session ≡ true ⌝ }
+    ensures result { λ r. ⌜ r ≡ wrapResult (wrapCommand session ins p1 p2 le (now («data» .entry)) (length (now (out .entry)))) ⌝ }
+    ensures output { λ _. ⌜ now (out .exit) ≡ buffer (λ field. field) (now (out .entry))
+        (wrapCommand session ins p1 p2 le (now («data» .entry)) (length (now (out .entry))) .answer) ⌝ }
+    ensures bytes { λ _. ⌜ IsBytes (now («data» .entry)) ⌝ }
+    ensures keyed { λ _. ⌜ Keyed session ⌝ }
+{
+    let checked = wrap_command_checks(session, ins, p1, p2, le, data.len(), out.len());
+    match checked {
+        Checked::Passed => write_command(session, ins, p1, p2, le, data, out),
+        Checked::Refused(refusal) => refused_wrap(session, refusal),
+    }
+}
 
 // A command with its data, as a field in the caller's buffer: refusals 1, 2, 3, 4, 5 and 6.
 // `bytes` and `keyed` are what the types say of the arguments; the demands use them.
@@ -29,13 +58,13 @@ pub fn wrap_command(
     out: &mut [u8],
 ) -> WrapResult
     ensures result { λ r. ⌜ r ≡ wrapResult (wrapCommand session ins p1 p2 le (now («data» .entry)) (length (now (out .entry)))) ⌝ }
-    ensures output { λ _. ⌜ now (out .exit) ≡ buffer (λ field. field) (now (out .entry)) (wrapCommand session ins p1 p2 le (now («data» .entry)) (length (now (out .entry))) .answer) ⌝ }
+    ensures output { λ _. ⌜ now (out .exit) ≡ buffer (λ field. field) (now (out .entry))
+        (wrapCommand session ins p1 p2 le (now («data» .entry)) (length (now (out .entry))) .answer) ⌝ }
     ensures bytes { λ _. ⌜ IsBytes (now («data» .entry)) ⌝ }
     ensures keyed { λ _. ⌜ Keyed session ⌝ }
 {
-    let checked = wrap_command_checks(session, ins, p1, p2, le, data.len(), out.len());
-    match checked {
-        Checked::Passed => write_command(session, ins, p1, p2, le, data, out),
-        Checked::Refused(refusal) => refused_wrap(session, refusal),
+    if !valid(session) {
+        return refused_wrap(session, Refusal::SessionClosed);
     }
+    wrap_command_with_valid_session(session, ins, p1, p2, le, data, out)
 }

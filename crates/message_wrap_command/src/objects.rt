@@ -5,6 +5,7 @@ use message_encrypt::encrypt_text;
 use session::Session;
 ghost use Prim.Native.Nat.{_+_, _<_, _≤_};
 ghost use lib.ListN.{length};
+ghost use Rattle.message_answer.specs.Message.{maxCommandData, commandLimit};
 ghost use Rattle.octets.specs.Write.{Wrote};
 ghost use Rattle.field_write.specs.Objects.{commandObjects};
 ghost use Rattle.field_size.specs.Lengths.{commandLength};
@@ -13,7 +14,7 @@ ghost use Rattle.message_protocol.specs.Command.{commandCiphertext};
 
 // The objects that the MAC covers, from index 0 on; the index behind them.
 pub fn put_objects(session: Session, le: bool, data: &[u8], out: &mut [u8]) -> usize
-    requires { ⌜ (session .count < 65535) × (length (now «data») ≤ 2047) × (commandLength (length (now «data»)) le ≤ length (now out)) ⌝ }
+    requires { ⌜ (session .count < commandLimit) × (length (now «data») ≤ maxCommandData) × (commandLength (length (now «data»)) le ≤ length (now out)) ⌝ }
     ensures objects { λ n. ⌜ Wrote (now (out .entry)) 0 (commandObjects (commandCiphertext aesCiphers session (now («data» .entry))) le) n (now (out .exit)) ⌝ }
     ensures room { λ n. ⌜ n + 10 ≤ length (now (out .entry)) ⌝ }
 {

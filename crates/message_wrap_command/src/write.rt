@@ -10,6 +10,7 @@ use session_turn::command_taken;
 ghost use mathlib.Core.Path.{_≡_};
 ghost use Prim.Native.Nat.{_<_, _≤_};
 ghost use lib.ListN.{length};
+ghost use Rattle.message_answer.specs.Message.{maxCommandData, commandLimit};
 ghost use Rattle.octets.specs.Write.{over};
 ghost use Rattle.field_size.specs.Lengths.{commandLength};
 ghost use Rattle.message_answer.specs.Answer.{given};
@@ -26,7 +27,7 @@ pub fn write_command(
     data: &[u8],
     out: &mut [u8],
 ) -> WrapResult
-    requires { ⌜ (session .count < 65535) × (length (now «data») ≤ 2047) × (commandLength (length (now «data»)) le ≤ length (now out)) ⌝ }
+    requires { ⌜ (session .count < commandLimit) × (length (now «data») ≤ maxCommandData) × (commandLength (length (now «data»)) le ≤ length (now out)) ⌝ }
     ensures result { λ r. ⌜ r ≡ wrapResult (given (commandWritten session ins p1 p2 le (now («data» .entry)))) ⌝ }
     ensures output { λ _. ⌜ now (out .exit) ≡ over (now (out .entry)) (commandWritten session ins p1 p2 le (now («data» .entry)) .gives) ⌝ }
 {

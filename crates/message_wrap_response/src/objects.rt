@@ -5,6 +5,7 @@ use message_encrypt::encrypt_text;
 use session::Session;
 ghost use Prim.Native.Nat.{_+_, _≤_};
 ghost use lib.ListN.{length};
+ghost use Rattle.message_answer.specs.Message.{maxResponseData, commandLimit};
 ghost use Rattle.octets.specs.Write.{Wrote};
 ghost use Rattle.field_write.specs.Objects.{responseObjects};
 ghost use Rattle.field_size.specs.Lengths.{responseLength};
@@ -13,7 +14,7 @@ ghost use Rattle.message_protocol.specs.Response.{responseCiphertext};
 
 // The objects that the MAC covers, from index 0 on; the index behind them.
 pub fn put_objects(session: Session, sw1: u8, sw2: u8, data: &[u8], out: &mut [u8]) -> usize
-    requires { ⌜ (session .count ≤ 65535) × (length (now «data») ≤ 16383) × (responseLength (length (now «data»)) ≤ length (now out)) ⌝ }
+    requires { ⌜ (session .count ≤ commandLimit) × (length (now «data») ≤ maxResponseData) × (responseLength (length (now «data»)) ≤ length (now out)) ⌝ }
     ensures objects { λ n. ⌜ Wrote (now (out .entry)) 0 (responseObjects (responseCiphertext aesCiphers session (now («data» .entry))) sw1 sw2) n (now (out .exit)) ⌝ }
     ensures room { λ n. ⌜ n + 10 ≤ length (now (out .entry)) ⌝ }
 {

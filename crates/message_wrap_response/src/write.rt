@@ -10,6 +10,7 @@ use session_turn::response_taken;
 ghost use mathlib.Core.Path.{_≡_};
 ghost use Prim.Native.Nat.{_≤_};
 ghost use lib.ListN.{length};
+ghost use Rattle.message_answer.specs.Message.{maxResponseData, commandLimit};
 ghost use Rattle.octets.specs.Write.{over};
 ghost use Rattle.field_size.specs.Lengths.{responseLength};
 ghost use Rattle.message_answer.specs.Answer.{given};
@@ -18,7 +19,7 @@ ghost use Rattle.message_wrap_response.specs.WrittenResponse.{responseWr
 
 // Writes the whole field of a response that passed its tests, and gives the next session.
 pub fn write_response(session: Session, sw1: u8, sw2: u8, data: &[u8], out: &mut [u8]) -> WrapResult
-    requires { ⌜ (session .count ≤ 65535) × (length (now «data») ≤ 16383) × (responseLength (length (now «data»)) ≤ length (now out)) ⌝ }
+    requires { ⌜ (session .count ≤ commandLimit) × (length (now «data») ≤ maxResponseData) × (responseLength (length (now «data»)) ≤ length (now out)) ⌝ }
     ensures result { λ r. ⌜ r ≡ wrapResult (given (responseWritten session sw1 sw2 (now («data» .entry)))) ⌝ }
     ensures output { λ _. ⌜ now (out .exit) ≡ over (now (out .entry)) (responseWritten session sw1 sw2 (now («data» .entry)) .gives) ⌝ }
 {

@@ -1,66 +1,57 @@
--- Document 01, "The numbered answers": the number of each refusal, and what it gives beside it. Assumes nothing.
+-- Document 01, "The numbered answers": the number of each refusal, and what it gives beside it.
 use Prim.Native.Nat.{ℕ, _+_, _*_}
 use Rattle.refusal.specs.declared.Refusal.{Refusal}
 use Rattle.refusal.specs.declared.Refusal.the-variants.{SessionClosed, OutOfTurn, NotPermitted, TooLong, CommandLimit, BufferTooSmall, Malformed, MissingObject, BadMac, BadPadding, UnknownSuite, BadKeyLength, Unprotected, BrokenChain, FragmentTooLong, BadSession}
+use Rattle.refusal.specs.declared.Told.{Told}
+use Rattle.refusal.specs.declared.Told.the-variants.{Number, Size, Status}
 
 abbrev pub statusWord : ℕ → ℕ → ℕ
 statusWord sw1 sw2 = sw1 * 256 + sw2
 
+-- the table's rows: a number alone, but for the size needed at 6 and the status word, unverified, at 13
+abbrev pub tells : Refusal → Told
+tells SessionClosed = Number 1
+tells OutOfTurn = Number 2
+tells NotPermitted = Number 3
+tells TooLong = Number 4
+tells CommandLimit = Number 5
+tells (BufferTooSmall size) = Size size
+tells Malformed = Number 7
+tells MissingObject = Number 8
+tells BadMac = Number 9
+tells BadPadding = Number 10
+tells UnknownSuite = Number 11
+tells BadKeyLength = Number 12
+tells (Unprotected sw1 sw2) = Status sw1 sw2
+tells BrokenChain = Number 14
+tells FragmentTooLong = Number 15
+tells BadSession = Number 16
+
+abbrev pub numberTold : Told → ℕ
+numberTold (Number n) = n
+numberTold (Size n) = 6
+numberTold (Status sw1 sw2) = 13
+
+abbrev pub sizeTold : Told → ℕ
+sizeTold (Number n) = 0
+sizeTold (Size n) = n
+sizeTold (Status sw1 sw2) = 0
+
+abbrev pub statusTold : Told → ℕ
+statusTold (Number n) = 0
+statusTold (Size n) = 0
+statusTold (Status sw1 sw2) = statusWord sw1 sw2
+
 abbrev pub number : Refusal → ℕ
-number SessionClosed = 1
-number OutOfTurn = 2
-number NotPermitted = 3
-number TooLong = 4
-number CommandLimit = 5
-number (BufferTooSmall size) = 6
-number Malformed = 7
-number MissingObject = 8
-number BadMac = 9
-number BadPadding = 10
-number UnknownSuite = 11
-number BadKeyLength = 12
-number (Unprotected sw1 sw2) = 13
-number BrokenChain = 14
-number FragmentTooLong = 15
-number BadSession = 16
+number r = numberTold (tells r)
 
 -- the size needed, at 6; 0 at all others
 abbrev pub size : Refusal → ℕ
-size SessionClosed = 0
-size OutOfTurn = 0
-size NotPermitted = 0
-size TooLong = 0
-size CommandLimit = 0
-size (BufferTooSmall n) = n
-size Malformed = 0
-size MissingObject = 0
-size BadMac = 0
-size BadPadding = 0
-size UnknownSuite = 0
-size BadKeyLength = 0
-size (Unprotected sw1 sw2) = 0
-size BrokenChain = 0
-size FragmentTooLong = 0
-size BadSession = 0
+size r = sizeTold (tells r)
 
 -- the status word, unverified, at 13; 0 at all others
 abbrev pub status : Refusal → ℕ
-status SessionClosed = 0
-status OutOfTurn = 0
-status NotPermitted = 0
-status TooLong = 0
-status CommandLimit = 0
-status (BufferTooSmall n) = 0
-status Malformed = 0
-status MissingObject = 0
-status BadMac = 0
-status BadPadding = 0
-status UnknownSuite = 0
-status BadKeyLength = 0
-status (Unprotected sw1 sw2) = statusWord sw1 sw2
-status BrokenChain = 0
-status FragmentTooLong = 0
-status BadSession = 0
+status r = statusTold (tells r)
 
 -- the table's column "Extra": a size or a status word
 abbrev pub extra : Refusal → ℕ

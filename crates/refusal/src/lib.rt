@@ -1,6 +1,6 @@
 // The refusals of document 01's table "The numbered answers", one for each number.
 ghost use mathlib.Core.Path.{_≡_};
-ghost use Rattle.refusal.specs.Refusal.{statusWord, number, size, status};
+ghost use Rattle.refusal.specs.Refusal.{statusWord, tells, numberTold, sizeTold, statusTold, number, size, status};
 
 pub enum Refusal {
     SessionClosed,
@@ -23,6 +23,13 @@ pub enum Refusal {
     BadSession,
 }
 
+// A row of the table: a number alone, 6 with the size needed, or 13 with the status word.
+pub enum Told {
+    Number(u32),
+    Size(usize),
+    Status(u8, u8),
+}
+
 fn wide(b: u8) -> u16
     ensures { λ r. ⌜ r ≡ b ⌝ }
 {
@@ -36,75 +43,79 @@ pub fn status_word(sw1: u8, sw2: u8) -> u16
     wide(sw1) * 256 + wide(sw2)
 }
 
+impl Told {
+    fn number(self) -> u32
+        ensures { λ n. ⌜ n ≡ numberTold self ⌝ }
+    {
+        match self {
+            Told::Number(n) => n,
+            Told::Size(_) => 6,
+            Told::Status(_, _) => 13,
+        }
+    }
+
+    fn size(self) -> usize
+        ensures { λ n. ⌜ n ≡ sizeTold self ⌝ }
+    {
+        match self {
+            Told::Number(_) => 0,
+            Told::Size(n) => n,
+            Told::Status(_, _) => 0,
+        }
+    }
+
+    fn status(self) -> u16
+        ensures { λ n. ⌜ n ≡ statusTold self ⌝ }
+    {
+        match self {
+            Told::Number(_) => 0,
+            Told::Size(_) => 0,
+            Told::Status(sw1, sw2) => status_word(sw1, sw2),
+        }
+    }
+}
+
 impl Refusal {
+    fn tells(self) -> Told
+        ensures { λ told. ⌜ told ≡ tells self ⌝ }
+    {
+        match self {
+            Refusal::SessionClosed => Told::Number(1),
+            Refusal::OutOfTurn => Told::Number(2),
+            Refusal::NotPermitted => Told::Number(3),
+            Refusal::TooLong => Told::Number(4),
+            Refusal::CommandLimit => Told::Number(5),
+            Refusal::BufferTooSmall(size) => Told::Size(size),
+            Refusal::Malformed => Told::Number(7),
+            Refusal::MissingObject => Told::Number(8),
+            Refusal::BadMac => Told::Number(9),
+            Refusal::BadPadding => Told::Number(10),
+            Refusal::UnknownSuite => Told::Number(11),
+            Refusal::BadKeyLength => Told::Number(12),
+            Refusal::Unprotected(sw1, sw2) => Told::Status(sw1, sw2),
+            Refusal::BrokenChain => Told::Number(14),
+            Refusal::FragmentTooLong => Told::Number(15),
+            Refusal::BadSession => Told::Number(16),
+        }
+    }
+
     pub fn number(self) -> u32
         ensures { λ n. ⌜ n ≡ number self ⌝ }
     {
-        match self {
-            Refusal::SessionClosed => 1,
-            Refusal::OutOfTurn => 2,
-            Refusal::NotPermitted => 3,
-            Refusal::TooLong => 4,
-            Refusal::CommandLimit => 5,
-            Refusal::BufferTooSmall(_) => 6,
-            Refusal::Malformed => 7,
-            Refusal::MissingObject => 8,
-            Refusal::BadMac => 9,
-            Refusal::BadPadding => 10,
-            Refusal::UnknownSuite => 11,
-            Refusal::BadKeyLength => 12,
-            Refusal::Unprotected(_, _) => 13,
-            Refusal::BrokenChain => 14,
-            Refusal::FragmentTooLong => 15,
-            Refusal::BadSession => 16,
-        }
+        Told::number(self.tells())
     }
 
     // The size that the caller's buffer should have.
     pub fn size(self) -> usize
         ensures { λ n. ⌜ n ≡ size self ⌝ }
     {
-        match self {
-            Refusal::SessionClosed => 0,
-            Refusal::OutOfTurn => 0,
-            Refusal::NotPermitted => 0,
-            Refusal::TooLong => 0,
-            Refusal::CommandLimit => 0,
-            Refusal::BufferTooSmall(size) => size,
-            Refusal::Malformed => 0,
-            Refusal::MissingObject => 0,
-            Refusal::BadMac => 0,
-            Refusal::BadPadding => 0,
-            Refusal::UnknownSuite => 0,
-            Refusal::BadKeyLength => 0,
-            Refusal::Unprotected(_, _) => 0,
-            Refusal::BrokenChain => 0,
-            Refusal::FragmentTooLong => 0,
-            Refusal::BadSession => 0,
-        }
+        Told::size(self.tells())
     }
 
     // The status word, unverified.
     pub fn status(self) -> u16
         ensures { λ n. ⌜ n ≡ status self ⌝ }
     {
-        match self {
-            Refusal::SessionClosed => 0,
-            Refusal::OutOfTurn => 0,
-            Refusal::NotPermitted => 0,
-            Refusal::TooLong => 0,
-            Refusal::CommandLimit => 0,
-            Refusal::BufferTooSmall(_) => 0,
-            Refusal::Malformed => 0,
-            Refusal::MissingObject => 0,
-            Refusal::BadMac => 0,
-            Refusal::BadPadding => 0,
-            Refusal::UnknownSuite => 0,
-            Refusal::BadKeyLength => 0,
-            Refusal::Unprotected(sw1, sw2) => status_word(sw1, sw2),
-            Refusal::BrokenChain => 0,
-            Refusal::FragmentTooLong => 0,
-            Refusal::BadSession => 0,
-        }
+        Told::status(self.tells())
     }
 }

@@ -1,15 +1,11 @@
 -- A session's arrays keep their lengths and hold bytes: after opening, and closed.
--- Assumes nothing.
-use mathlib.Core.Path.{_≡_, refl, sym, ap, subst, _∙_}
+use mathlib.Core.Path.{_≡_, refl}
 use mathlib.Core.Bool.{Bool, true, false}
-use mathlib.Core.List.{_++_}
-use Prim.Native.Nat.{ℕ, _+_, _-_, _<_, _≤_}
-use native.Mathlib.Nat.{zero-lt-suc}
+use Prim.Native.Nat.{ℕ, _-_, _≤_}
 use native.Mathlib.Omega.{arith}
-use lib.ListN.{length, getD, length-append, length-replicate, getD-replicate, List·getD-append}
-use lib.Seq.{getD-append-add}
+use lib.ListN.{length, length-append, length-replicate}
 use Rattle.octets.specs.Bytes.{Bytes, IsBytes, zeros}
-use Rattle.octets.proofs.ByteStrings.{by-test}
+use Rattle.octets.proofs.ByteStrings.{bytes-append, bytes-zeros}
 use Rattle.session_suite.specs.Suites.{keyLength, suiteOf}
 use Rattle.session.specs.Session.{closed, closedAt}
 use Rattle.session_suite.specs.StoredKeys.{stored, Keys, keysFit, KeysOfBytes}
@@ -23,36 +19,15 @@ use Rattle.session.specs.declared.Session.{Session}
 use Rattle.session_suite.proofs.StoredKeys.{key-length-most, fitting}
 
 zero-block : (n : ℕ) → Block n (zeros n)
-zero-block n =
-    let size : length (zeros n) ≡ n = length-replicate n 0 in
-    record {
-      size = size;
-      bytes = λ i h. subst (λ (b : ℕ). b < 256) (sym (getD-replicate n i 0 0 (omega arith))) (zero-lt-suc 255);
-    }
+zero-block n = record { size = length-replicate n 0; bytes = bytes-zeros n }
 
 stored-block : (key : Bytes) → length key ≤ 32 → IsBytes key → Block 32 (stored key)
 stored-block key h b =
+    let rest = zero-block (32 - length key) in
     record {
-      size = length-append key rest ∙ ap (λ (n : ℕ). length key + n) (z .size) ∙ omega arith;
-      bytes =
-          λ i l. by-test i (length key)
-          (λ g. subst byte (sym (List·getD-append key rest 0 i g)) (b i g))
-          (λ g. subst byte (sym (behind i g)) (z .bytes (i - length key) (omega (arith, length-append key rest))));
+      size = omega (arith, length-append key (zeros (32 - length key)), rest .size);
+      bytes = bytes-append key (zeros (32 - length key)) b (rest .bytes);
     }
-  where
-    rest : Bytes
-    rest = zeros (32 - length key)
-
-    z : Block (32 - length key) rest
-    z = zero-block (32 - length key)
-
-    byte : ℕ → Type 0
-    byte n = n < 256
-
-    behind : (i : ℕ) → length key ≤ i → getD (key ++ rest) i 0 ≡ getD rest (i - length key) 0
-    behind i g =
-        let e : i ≡ length key + (i - length key) = omega arith in
-        ap (λ (k : ℕ). getD (key ++ rest) k 0) e ∙ getD-append-add key rest (i - length key) 0
 
 pub closed-at-arrays : (side : Side) (suite : Suite) → Arrays (closedAt side suite)
 closed-at-arrays side suite =

@@ -1,16 +1,16 @@
 -- Decoding what was encoded gives the same session.
--- Assumes nothing.
 use mathlib.Core.Path.{_≡_, refl, ap, _∙_}
 use mathlib.Core.Bool.{true}
 use mathlib.Core.List.{[], _++_, append-assoc, append-nil}
-use Prim.Native.Nat.{ℕ, _+_, _*_, _/_, _%_, _≤_}
+use Prim.Native.Nat.{ℕ, _≤_}
 use native.Mathlib.Omega.{arith}
-use borrow.Author.Tests.{eq-eqb, leb-true}
+use borrow.Author.Tests.{eq-eqb}
 use lib.Dec.{leb}
 use lib.ListN.{length, length-append}
 use lib.Seq.{take-at, drop-at}
 use Rattle.octets.specs.Bytes.{Bytes}
-use Rattle.octets.proofs.Tests.{both}
+use Rattle.octets_numbers.specs.BigEndian.{bigEndian, numberFrom, numberIn}
+use Rattle.octets_numbers.proofs.BigEndian.{number-big-endian}
 use Rattle.session_suite.specs.Suites.{number, suiteOf}
 use Rattle.session.specs.Arrays.{Arrays}
 use Rattle.session.specs.declared.Side.{Side}
@@ -21,8 +21,9 @@ use Rattle.session_suite.specs.declared.Suite.{Suite}
 use Rattle.session_suite.specs.declared.Suite.the-variants.{Cs2, Cs7}
 use Rattle.session_suite.specs.declared.SuiteNumber.the-variants.{Known}
 use Rattle.session.specs.declared.Session.{Session}
-use Rattle.session_rules.specs.Valid.{valid, keepsPhase}
-use Rattle.session_bytes.specs.Saved.{sideNumber, phaseNumber, header, keys, mcvs, encode, headed, sideFrom, phaseFrom, part, sessionFrom, decodedTo, accepted, decodeSuite, decode}
+use Rattle.session_rules.specs.Valid.{valid}
+use Rattle.session_rules.proofs.KeepsTheRules.{valid-count}
+use Rattle.session_bytes.specs.Saved.{sessionSize, sideNumber, phaseNumber, header, keys, mcvs, encode, headed, sideFrom, phaseFrom, countFrom, part, sessionFrom, decodedTo, accepted, decodeSuite, decode}
 use Rattle.session_bytes.proofs.SavedParts.{length-header, length-keys, length-encode}
 
 -- ---- numbers
@@ -49,13 +50,6 @@ phase-known Ready = refl
 phase-known Pending = refl
 phase-known Closed = refl
 
-count-back : (n : ℕ) → n ≤ 65535 → n / 16777216 % 256 * 16777216 + n / 65536 % 256 * 65536 + n / 256 % 256 * 256 + n % 256 ≡ n
-count-back n h = omega arith
-
-pub count-most : (s : Session) → valid s ≡ true → s .count ≤ 65535
-unfolding valid
-count-most s h = leb-true (s .count) 65535 (both (leb (s .count) 65535) (keepsPhase s (s .phase)) h .0)
-
 -- ---- parts
 
 -- xs, between what stands before it and behind it
@@ -78,7 +72,7 @@ module _ (s : Session) (a : Arrays s) where
   abbrev response : Bytes
   response = s .«response_mcv»
 
-  whole : length (encode s) ≡ 138
+  whole : length (encode s) ≡ sessionSize
   whole = length-encode s (a .enc .size) (a .mac .size) (a .rmac .size) (a .command .size) (a .response .size)
 
   enc-back : part (encode s) 10 32 ≡ enc
@@ -117,14 +111,18 @@ module _ (s : Session) (a : Arrays s) where
       let l : length (header s ++ keys s ++ command) ≡ 122 = simp length-append (omega (arith, length-header s, k, a .command .size)) in
       ap (λ (l : Bytes). part l 122 16) e ∙ between (header s ++ keys s ++ command) response [] 122 16 l (a .response .size)
 
+  count-back : s .count ≤ 65535 → countFrom (encode s) ≡ s .count
+  unfolding encode header bigEndian
+  count-back h = number-big-endian 4 (s .count) (omega arith)
+
   session-back : s .count ≤ 65535 → sessionFrom (encode s) (s .suite) ≡ s
-  unfolding sessionFrom encode header
+  unfolding sessionFrom encode header bigEndian
   session-back h =
       λ i. record {
         side = side-back (s .side) i;
         phase = phase-back (s .phase) i;
         suite = s .suite;
-        count = count-back (s .count) h i;
+        count = count-back h i;
         «sk_enc» = enc-back i;
         «sk_mac» = mac-back i;
         «sk_rmac» = rmac-back i;
@@ -133,9 +131,9 @@ module _ (s : Session) (a : Arrays s) where
       }
 
   headed-back : headed (encode s) ≡ true
-  unfolding headed encode header
+  unfolding headed encode header bigEndian numberIn numberFrom
   headed-back = rw (eq-eqb _ _ whole, side-known (s .side), phase-known (s .phase))
 
   pub decode-encode : valid s ≡ true → decode (encode s) ≡ decodedTo s
-  unfolding decode decodeSuite accepted encode header
-  decode-encode h = rw (headed-back, suite-back (s .suite), session-back (count-most s h), h)
+  unfolding decode decodeSuite accepted encode header bigEndian
+  decode-encode h = rw (headed-back, suite-back (s .suite), session-back (valid-count s h), h)

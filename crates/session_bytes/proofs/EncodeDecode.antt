@@ -1,10 +1,9 @@
 -- Encoding what was decoded gives the same bytes. So exactly the encodings of sessions that keep the rules are decoded.
--- Assumes nothing.
 use mathlib.Core.Path.{_≡_, refl, sym, ap, ap₂, subst, _∙_}
 use mathlib.Core.Bool.{Bool, true, false}
 use mathlib.Core.List.{_∷_, _++_, append-assoc}
 use mathlib.Core.Logic.{_↔_}
-use Prim.Native.Nat.{ℕ, zero, suc, _+_, _*_, _/_, _%_, _<_, _≤_}
+use Prim.Native.Nat.{ℕ, zero, suc, _+_, _-_, _<_, _≤_}
 use native.Mathlib.Omega.{arith}
 use borrow.Author.Tests.{eqb-true}
 use lib.Dec.{eqb}
@@ -13,6 +12,8 @@ use lib.Seq.{length-take-le, drop-cons, drop-drop, getD-take, getD-drop, take-al
 use Rattle.octets.specs.Bytes.{Bytes, IsBytes}
 use Rattle.octets.specs.Choice.{if_then_else_}
 use Rattle.octets.proofs.ByteStrings.{byte-at}
+use Rattle.octets_numbers.specs.BigEndian.{bigEndian, numberIn}
+use Rattle.octets_numbers.proofs.BigEndian.{big-endian-number}
 use Rattle.session_suite.specs.Suites.{number, suiteOf}
 use Rattle.session.specs.Arrays.{Block, Arrays}
 use Rattle.session_suite.specs.declared.Suite.{Suite}
@@ -21,11 +22,11 @@ use Rattle.session_suite.specs.declared.SuiteNumber.{SuiteNumber}
 use Rattle.session_suite.specs.declared.SuiteNumber.the-variants.{Known, Unknown}
 use Rattle.session.specs.declared.Session.{Session}
 use Rattle.session_rules.specs.Valid.{valid}
-use Rattle.session_bytes.specs.Saved.{sideNumber, phaseNumber, header, keys, mcvs, encode, headed, sideFrom, phaseFrom, part, sessionFrom, accepted, decodeSuite, decode}
+use Rattle.session_bytes.specs.Saved.{sessionSize, sideNumber, phaseNumber, header, keys, mcvs, encode, headed, sideFrom, phaseFrom, part, sessionFrom, accepted, decodeSuite, decode}
 use Rattle.session_bytes.specs.declared.Decoding.the-variants.{Decoded as Done}
 use Rattle.session_bytes.specs.declared.Decoded.{Decoded}
 use Rattle.session_bytes.proofs.SavedParts.{Headed, headed-right}
-use Rattle.session_bytes.proofs.DecodeEncode.{count-most, decode-encode}
+use Rattle.session_bytes.proofs.DecodeEncode.{decode-encode}
 
 -- ---- what was decoded
 
@@ -82,12 +83,6 @@ suite-number n suite = at-2 (eqb n 2) refl
     at-2 true e k = let s : Cs2 ≡ suite = cc in sym (ap number s) ∙ sym (eqb-true n 2 e)
     at-2 false e k = at-7 (eqb n 7) refl k
 
--- four bytes of a number below 65,536
-count-bytes : (a b c d : ℕ) → a < 256 → b < 256 → c < 256 → d < 256 → a * 16777216 + b * 65536 + c * 256 + d ≤ 65535
-    → let n = a * 16777216 + b * 65536 + c * 256 + d in
-    (n / 16777216 % 256 ≡ a) × (n / 65536 % 256 ≡ b) × (n / 256 % 256 ≡ c) × (n % 256 ≡ d)
-count-bytes a b c d ha hb hc hd h = (omega arith, omega arith, omega arith, omega arith)
-
 -- ---- parts
 
 split : (b : Bytes) (at n : ℕ) → drop at b ≡ part b at n ++ drop (at + n) b
@@ -102,6 +97,12 @@ part-block b at n h l =
           λ i k. subst (λ (x : ℕ). x < 256) (sym (getD-take n (drop at b) i 0 (omega arith) ∙ getD-drop at b i 0))
           (byte-at b h (at + i));
     }
+
+-- the number in a part has the part's bytes
+number-part : (b : Bytes) (at n : ℕ) → IsBytes b → at + n ≤ length b → bigEndian n (numberIn (part b at n)) ≡ part b at n
+number-part b at n h l =
+    let p = part-block b at n h l in
+    ap (λ (k : ℕ). bigEndian k (numberIn (part b at n))) (sym (p .size)) ∙ big-endian-number (part b at n) (p .bytes)
 
 module _ (b : Bytes) (h : IsBytes b) (r : Read b) where
   abbrev s : Session
@@ -123,18 +124,14 @@ module _ (b : Bytes) (h : IsBytes b) (r : Read b) where
   unfolding sessionFrom header
   header-same =
       let size = r .first .size in
-      let n = count-bytes (getD b 6 0) (getD b 7 0) (getD b 8 0) (getD b 9 0) (byte-at b h 6) (byte-at b h 7)
-      (byte-at b h 8) (byte-at b h 9) (count-most s (r .keeps)) in
-      cons 0 (r .first .rest-high) (omega arith)
-      (cons 1 (r .first .rest-low) (omega arith)
+      split b 0 2
+      ∙ ap₂ _++_ (sym (number-part b 0 2 h (omega arith)) ∙ ap (bigEndian 2) (r .first .rest))
       (cons 2 (r .first .version) (omega arith)
       (cons 3 (sym (side-number (getD b 3 0) (r .first .side))) (omega arith)
       (cons 4 (sym (phase-number (getD b 4 0) (r .first .phase))) (omega arith)
       (cons 5 (sym (suite-number (getD b 5 0) (r .suite) (r .known))) (omega arith)
-      (cons 6 (sym (n .0)) (omega arith)
-      (cons 7 (sym (n .1)) (omega arith)
-      (cons 8 (sym (n .2)) (omega arith)
-      (cons 9 (sym (n .3)) (omega arith) refl)))))))))
+      (split b 6 4 ∙ ap (λ (l : Bytes). l ++ drop 10 b) (sym (number-part b 6 4 h (omega arith))))))))
+      ∙ sym (append-assoc (bigEndian 2 (sessionSize - 2)) _ (drop 10 b))
     where
       cons : (i : ℕ) {x : ℕ} {rest : Bytes} → getD b i 0 ≡ x → i < length b → drop (suc i) b ≡ rest → drop i b ≡ x ∷ rest
       cons i e l t = drop-cons b i 0 l ∙ ap₂ (λ (y : ℕ) (ys : Bytes). y ∷ ys) e t

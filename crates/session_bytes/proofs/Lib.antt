@@ -4,3 +4,5 @@ pub mod EncodeDecode
 pub mod SavedExamples
 pub mod SavingExamples
 pub mod SavedReadBack
+pub mod SessionLengths
+pub mod AnsweredNumbers

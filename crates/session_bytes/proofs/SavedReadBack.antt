@@ -1,5 +1,4 @@
 -- What saving leaves in the caller's buffer is read back as the session, for every session that can be saved.
--- Assumes nothing.
 use mathlib.Core.Path.{_≡_, refl, ap, _∙_}
 use mathlib.Core.Bool.{Bool, true, false}
 use Prim.Native.Nat.{ℕ}
@@ -13,7 +12,7 @@ use Rattle.refusal.specs.declared.Refusal.{Refusal}
 use Rattle.session.specs.Arrays.{Arrays}
 use Rattle.session.specs.declared.Session.{Session}
 use Rattle.session_rules.specs.Valid.{valid}
-use Rattle.session_bytes.specs.Saved.{encode, decode, decodedTo}
+use Rattle.session_bytes.specs.Saved.{sessionSize, encode, decode, decodedTo}
 use Rattle.session_bytes.specs.Saving.{encoding, encodedIn}
 use Rattle.session_bytes.specs.declared.Encoding.{Encoding}
 use Rattle.session_bytes.specs.declared.Encoding.the-variants.{Encoded, Refused}
@@ -30,10 +29,10 @@ saved-valid s room e = go (valid s) _ _ e
     go false x r e = let z : _≡_ {A = ℕ} 0 1 = cc in let o : ⊥ = omega arith in absurd o
 
 pub saved-reads-back : (s : Session) → Arrays s → (out : Bytes) → encoding s (length out) ≡ Encoded
-    → decode (take 138 (encodedIn out (encoding s (length out)) s)) ≡ decodedTo s
+    → decode (take sessionSize (encodedIn out (encoding s (length out)) s)) ≡ decodedTo s
 unfolding encodedIn over
 saved-reads-back s a out e =
-    let whole : length (encode s) ≡ 138 = length-encode s (a .enc .size) (a .mac .size) (a .rmac .size) (a .command .size) (a .response .size) in
-    ap (λ x. decode (take 138 (encodedIn out x s))) e
-    ∙ ap decode (take-at (encode s) (drop (length (encode s)) out) 138 whole)
+    let whole : length (encode s) ≡ sessionSize = length-encode s (a .enc .size) (a .mac .size) (a .rmac .size) (a .command .size) (a .response .size) in
+    ap (λ x. decode (take sessionSize (encodedIn out x s))) e
+    ∙ ap decode (take-at (encode s) (drop (length (encode s)) out) sessionSize whole)
     ∙ decode-encode s a (saved-valid s (length out) e)

@@ -1,11 +1,12 @@
--- Document 01, "The saved session": a session as 138 bytes, and back. Numbers are big-endian. Assumes nothing.
+-- Document 01, "The saved session": a session as 138 bytes, and back. Numbers are big-endian.
 use mathlib.Core.Bool.{Bool, _&&_}
 use mathlib.Core.List.{[], _∷_, _++_}
-use Prim.Native.Nat.{ℕ, _+_, _*_, _/_, _%_}
+use Prim.Native.Nat.{ℕ, _-_}
 use lib.Dec.{eqb, leb}
 use lib.ListN.{length, getD, take, drop}
 use Rattle.octets.specs.Bytes.{Bytes}
 use Rattle.octets.specs.Choice.{if_then_else_}
+use Rattle.octets_numbers.specs.BigEndian.{bigEndian, numberIn}
 use Rattle.refusal.specs.declared.Refusal.the-variants.{BadSession}
 use Rattle.session_suite.specs.Suites.{number, suiteOf}
 use Rattle.session.specs.Session.{noSession}
@@ -36,11 +37,11 @@ phaseNumber Ready = 0
 phaseNumber Pending = 1
 phaseNumber Closed = 2
 
--- length of the rest, version, side, phase, suite, count
+-- length of the rest (00 88), version, side, phase, suite, count
 unfoldable pub header : Session → Bytes
 header s =
-    0x00 ∷ 0x88 ∷ 0x01 ∷ sideNumber (s .side) ∷ phaseNumber (s .phase) ∷ number (s .suite)
-    ∷ s .count / 16777216 % 256 ∷ s .count / 65536 % 256 ∷ s .count / 256 % 256 ∷ s .count % 256 ∷ []
+    bigEndian 2 (sessionSize - 2) ++ 0x01 ∷ sideNumber (s .side) ∷ phaseNumber (s .phase) ∷ number (s .suite)
+    ∷ bigEndian 4 (s .count)
 
 unfoldable pub keys : Session → Bytes
 keys s = s .«sk_enc» ++ s .«sk_mac» ++ s .«sk_rmac»
@@ -53,10 +54,14 @@ encode s = header s ++ keys s ++ mcvs s
 
 -- ---- reading
 
+-- n bytes from index at on
+abbrev pub part : Bytes → ℕ → ℕ → Bytes
+part b at n = take n (drop at b)
+
 -- 138 bytes: length of the rest 00 88, version 01, side 0 or 1, phase 0, 1 or 2
 unfoldable pub headed : Bytes → Bool
 headed b =
-    eqb (length b) sessionSize && eqb (getD b 0 0) 0x00 && eqb (getD b 1 0) 0x88 && eqb (getD b 2 0) 0x01
+    eqb (length b) sessionSize && eqb (numberIn (part b 0 2)) (sessionSize - 2) && eqb (getD b 2 0) 0x01
     && leb (getD b 3 0) 1 && leb (getD b 4 0) 2
 
 abbrev pub sideFrom : ℕ → Side
@@ -66,11 +71,7 @@ abbrev pub phaseFrom : ℕ → Phase
 phaseFrom n = if eqb n 0 then Ready else if eqb n 1 then Pending else Closed
 
 abbrev pub countFrom : Bytes → ℕ
-countFrom b = getD b 6 0 * 16777216 + getD b 7 0 * 65536 + getD b 8 0 * 256 + getD b 9 0
-
--- n bytes from index at on
-abbrev pub part : Bytes → ℕ → ℕ → Bytes
-part b at n = take n (drop at b)
+countFrom b = numberIn (part b 6 4)
 
 unfoldable pub sessionFrom : Bytes → Suite → Session
 sessionFrom b suite =

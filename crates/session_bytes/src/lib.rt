@@ -2,8 +2,10 @@
 mod read;
 
 use octets::put_bytes;
+use octets_numbers::put_four_byte_number;
+use octets_numbers::two_byte_number_at;
+use octets_numbers::wide;
 use read::session_from;
-use read::wide;
 use refusal::Refusal;
 use session::Phase;
 use session::Session;
@@ -23,6 +25,11 @@ ghost use Rattle.session_bytes.specs.Saving.{encoding, encodedIn};
 // The length of a saved session.
 pub const SIZE: usize = 138;
 
+// The length of what stands behind the two bytes that tell it.
+const REST: u32 = SIZE as u32 - 2;
+
+const VERSION: u8 = 0x01;
+
 pub enum Decoding {
     Decoded,
     Refused(Refusal),
@@ -39,7 +46,8 @@ pub enum Encoding {
     Refused(Refusal),
 }
 
-// Saves a session: refusals 1 and 6. The calls from C write by put_session, since they have shown the room and the rules.
+// Saves a session: refusals 1 and 6. It is for callers that keep a Session, and nothing in the library calls it: the calls from C hold a
+// session as bytes, and put the next one back by put_session where they have shown the room and the rules.
 pub fn encode(session: Session, out: &mut [u8]) -> Encoding
     ensures answer { λ answer. ⌜ answer ≡ encoding session (length (now (out .entry))) ⌝ }
     ensures output { λ answer. ⌜ now (out .exit) ≡ encodedIn (now (out .entry)) answer session ⌝ }
@@ -75,22 +83,12 @@ fn put_header(session: Session, out: &mut [u8]) -> usize
     let d = side_number(side);
     let p = phase_number(phase);
     let u = suite.number();
-    put_bytes(
+    let k = put_bytes(
         out,
         0,
-        &[
-            0x00,
-            0x88,
-            0x01,
-            d,
-            p,
-            u,
-            (count / 16777216 % 256) as u8,
-            (count / 65536 % 256) as u8,
-            (count / 256 % 256) as u8,
-            (count % 256) as u8,
-        ],
-    )
+        &[(REST / 256) as u8, (REST % 256) as u8, VERSION, d, p, u],
+    );
+    put_four_byte_number(out, k, count)
 }
 
 fn side_number(side: Side) -> u8
@@ -186,13 +184,10 @@ fn headed(bytes: &[u8]) -> bool
     if bytes.len() != SIZE {
         return false;
     }
-    if bytes[0] != 0x00 {
+    if two_byte_number_at(bytes, 0) != REST {
         return false;
     }
-    if bytes[1] != 0x88 {
-        return false;
-    }
-    if bytes[2] != 0x01 {
+    if bytes[2] != VERSION {
         return false;
     }
     if bytes[3] > 1 {

@@ -1,14 +1,15 @@
 // The session in the bytes of a saved one, whatever they hold (document 01, "The saved session").
 use octets::put_bytes;
 use octets_blocks::block_at;
+use octets_numbers::four_byte_number_at;
 use session::Phase;
 use session::Session;
 use session::Side;
 use session_suite::Suite;
 ghost use mathlib.Core.Path.{_≡_};
-ghost use Prim.Native.Nat.{_+_, _*_, _≤_};
+ghost use Prim.Native.Nat.{_+_, _≤_};
 ghost use lib.ListN.{length};
-ghost use Rattle.session_bytes.specs.Saved.{sessionSize, sideFrom, phaseFrom, countFrom, part, sessionFrom};
+ghost use Rattle.session_bytes.specs.Saved.{sessionSize, sideFrom, phaseFrom, part, sessionFrom};
 
 fn side_from(n: u8) -> Side
     ensures { λ side. ⌜ side ≡ sideFrom n ⌝ }
@@ -31,27 +32,6 @@ fn phase_from(n: u8) -> Phase
     Phase::Closed
 }
 
-// A byte as a number that is added to and compared.
-pub fn wide(b: u8) -> u32
-    ensures { λ n. ⌜ n ≡ b ⌝ }
-{
-    b as u32
-}
-
-// Four bytes, the highest first.
-fn number_from(a: u8, b: u8, c: u8, d: u8) -> u32
-    ensures { λ n. ⌜ n ≡ a * 16777216 + b * 65536 + c * 256 + d ⌝ }
-{
-    wide(a) * 16777216 + wide(b) * 65536 + wide(c) * 256 + wide(d)
-}
-
-fn count_from(bytes: &[u8]) -> u32
-    requires { ⌜ 10 ≤ length (now bytes) ⌝ }
-    ensures { λ n. ⌜ n ≡ countFrom (now (bytes .entry)) ⌝ }
-{
-    number_from(bytes[6], bytes[7], bytes[8], bytes[9])
-}
-
 fn key_at(bytes: &[u8], at: usize) -> [u8; 32]
     requires { ⌜ at + 32 ≤ length (now bytes) ⌝ }
     ensures { λ key. ⌜ key ≡ part (now (bytes .entry)) at 32 ⌝ }
@@ -69,7 +49,7 @@ pub fn session_from(bytes: &[u8], suite: Suite) -> Session
         side: side_from(bytes[3]),
         phase: phase_from(bytes[4]),
         suite,
-        count: count_from(bytes),
+        count: four_byte_number_at(bytes, 6),
         sk_enc: key_at(bytes, 10),
         sk_mac: key_at(bytes, 42),
         sk_rmac: key_at(bytes, 74),

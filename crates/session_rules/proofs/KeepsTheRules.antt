@@ -1,6 +1,5 @@
 -- Every call keeps the rules: an opening that is not refused gives a session that calls are served with, a command and its
 -- response leave it so, and a closed session is by the rules and not served.
--- Assumes nothing.
 use mathlib.Core.Path.{_≡_, refl, sym, ap, _∙_}
 use mathlib.Core.Bool.{Bool, true, false, _&&_}
 use Prim.Native.Nat.{ℕ, zero, suc, _+_, _-_, _<_, _≤_}
@@ -22,7 +21,7 @@ use Rattle.session_suite.specs.declared.Suite.{Suite}
 use Rattle.session_suite.specs.declared.SuiteNumber.{SuiteNumber}
 use Rattle.session_suite.specs.declared.SuiteNumber.the-variants.{Known, Unknown}
 use Rattle.session.specs.declared.Phase.{Phase}
-use Rattle.session.specs.declared.Phase.the-variants.{Ready, Pending}
+use Rattle.session.specs.declared.Phase.the-variants.{Ready, Pending, Closed}
 use Rattle.session.specs.declared.Opening.the-variants.{Opened as Done}
 use Rattle.session.specs.declared.Session.{Session}
 use Rattle.session_suite.proofs.StoredKeys.{fitting}
@@ -114,6 +113,24 @@ response-served s mcv h e =
 
 -- ---- what calls are served with
 
-pub served-count : (s : Session) → countsAsOpen s ≡ true → s .count ≤ 65535
-unfolding countsAsOpen valid
-served-count s e = leb-true (s .count) 65535 (both (leb (s .count) 65535) (keepsPhase s (s .phase)) (both (isOpen (s .phase)) (valid s) e .1) .0)
+pub served-by-phase : (s : Session) → valid s ≡ true → countsAsOpen s ≡ isOpen (s .phase)
+unfolding countsAsOpen
+served-by-phase s v = rw v (go (s .phase))
+  where
+    go : (phase : Phase) → (isOpen phase && true) ≡ isOpen phase
+    go Ready = refl
+    go Pending = refl
+    go Closed = refl
+
+pub broken-not-served : (s : Session) → valid s ≡ false → countsAsOpen s ≡ false
+unfolding countsAsOpen
+broken-not-served s v = rw v (go (s .phase))
+  where
+    go : (phase : Phase) → (isOpen phase && false) ≡ false
+    go Ready = refl
+    go Pending = refl
+    go Closed = refl
+
+pub valid-count : (s : Session) → valid s ≡ true → s .count ≤ 65535
+unfolding valid
+valid-count s v = leb-true (s .count) 65535 (both (leb (s .count) 65535) (keepsPhase s (s .phase)) v .0)

@@ -8,7 +8,7 @@ use zeros::keys_end;
 use zeros::keys_zero;
 use zeros::mcvs_zero;
 ghost use mathlib.Core.Path.{_≡_};
-ghost use Rattle.session_rules.specs.Valid.{keepsPhase, valid, countsAsOpen};
+ghost use Rattle.session_rules.specs.Valid.{keepsPhase, valid, isOpen};
 
 fn keeps_ready(session: Session) -> bool
     ensures { λ keeps. ⌜ keeps ≡ keepsPhase session Phase.Ready ⌝ }
@@ -62,14 +62,13 @@ pub fn valid(session: Session) -> bool
     }
 }
 
-// Whether calls are served with this session.
-pub fn counts_as_open(session: Session) -> bool
-    ensures { λ serves. ⌜ serves ≡ countsAsOpen session ⌝ }
+// Whether calls are served with a session that keeps the rules and is in that phase.
+pub fn is_open(phase: Phase) -> bool
+    ensures { λ serves. ⌜ serves ≡ isOpen phase ⌝ }
 {
-    let phase = session.phase;
     match phase {
-        Phase::Ready => valid(session),
-        Phase::Pending => valid(session),
+        Phase::Ready => true,
+        Phase::Pending => true,
         Phase::Closed => false,
     }
 }

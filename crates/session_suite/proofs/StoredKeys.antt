@@ -1,6 +1,6 @@
 -- Keys of a suite's length, and the 32 bytes that a key is stored in. For opening, and for the rules that a session keeps.
--- Assumes nothing.
-use mathlib.Core.Path.{_≡_, ap}
+use mathlib.Core.Path.{_≡_, refl, ap}
+use mathlib.Core.Logic.{_⊎_, inl, inr}
 use mathlib.Core.Bool.{true, _&&_}
 use mathlib.Core.List.{_++_}
 use Prim.Native.Nat.{ℕ, zero, suc, _-_, _≤_}
@@ -21,6 +21,10 @@ pub key-length-most : (suite : Suite) → keyLength suite ≤ 32
 key-length-most Cs2 = omega arith
 key-length-most Cs7 = omega arith
 
+pub key-size : (suite : Suite) (key : Bytes) → length key ≡ keyLength suite → (length key ≡ 16) ⊎ (length key ≡ 32)
+key-size Cs2 key e = inl e
+key-size Cs7 key e = inr e
+
 -- the three lengths, where they fit
 pub record Fitting (n : ℕ) (k : Keys) : Type 0 where
   pub enc : length (k .enc) ≡ n
@@ -37,6 +41,13 @@ fitting n k e =
       mac = eqb-true (length (k .mac)) n (second .1);
       rmac = eqb-true (length (k .rmac)) n (first .1);
     }
+
+-- keys fit one suite only
+pub one-suite : (s t : Suite) (k : Keys) → keysFit (keyLength s) k ≡ true → keysFit (keyLength t) k ≡ true → t ≡ s
+one-suite Cs2 Cs2 k e f = refl
+one-suite Cs2 Cs7 k e f = let z : ⊥ = omega (arith, fitting 16 k e .enc, fitting 32 k f .enc) in absurd z
+one-suite Cs7 Cs2 k e f = let z : ⊥ = omega (arith, fitting 32 k e .enc, fitting 16 k f .enc) in absurd z
+one-suite Cs7 Cs7 k e f = refl
 
 drop-zeros : (i n : ℕ) → i ≤ n → drop i (zeros n) ≡ zeros (n - i)
 drop-zeros zero n h = simp unary-clauses

@@ -1,10 +1,9 @@
--- Document 01, "The session and whose turn it is": each call is made at one side, in one phase. Assumes nothing.
+-- Document 01, "The session and whose turn it is": each call is made at one side, in one phase.
 use mathlib.Core.Bool.{Bool, true, false, _&&_}
 use Rattle.session.specs.declared.Side.{Side}
 use Rattle.session.specs.declared.Side.the-variants.{Host, Card}
 use Rattle.session.specs.declared.Phase.{Phase}
 use Rattle.session.specs.declared.Phase.the-variants.{Ready, Pending, Closed}
-use Rattle.session.specs.declared.Session.{Session}
 
 abbrev pub sameSide : Side → Side → Bool
 sameSide Host Host = true
@@ -23,5 +22,6 @@ samePhase Closed Ready = false
 samePhase Closed Pending = false
 samePhase Closed Closed = true
 
-unfoldable pub isTurn : Side → Phase → Session → Bool
-isTurn side phase s = sameSide (s .side) side && samePhase (s .phase) phase
+-- whether a call that is made at that side, in that phase, is in turn for a session whose own side and phase these are
+unfoldable pub isTurn : Side → Phase → Side → Phase → Bool
+isTurn side phase own current = sameSide own side && samePhase current phase

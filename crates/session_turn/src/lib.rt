@@ -44,14 +44,12 @@ fn same_phase(a: Phase, b: Phase) -> bool
     }
 }
 
-// Whether a call that is made at that side, in that phase, is in turn.
-pub fn is_turn(side: Side, phase: Phase, session: Session) -> bool
-    ensures { λ turn. ⌜ turn ≡ isTurn side phase session ⌝ }
+// Whether a call that is made at that side, in that phase, is in turn for a session whose own side and phase these are.
+pub fn is_turn(side: Side, phase: Phase, own: Side, current: Phase) -> bool
+    ensures { λ turn. ⌜ turn ≡ isTurn side phase own current ⌝ }
 {
-    let own = session.side;
-    let now = session.phase;
     if same_side(own, side) {
-        return same_phase(now, phase);
+        return same_phase(current, phase);
     }
     false
 }

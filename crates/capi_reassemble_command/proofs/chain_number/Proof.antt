@@ -10,4 +10,7 @@ unfolding chainNumber
 returns c = omega (arith, c .before .before .wide .ensures, c .before .wide2 .ensures, c .wide3 .ensures)
 
 pub chain-number-spec : {M : Type 1} → statement M
-chain-number-spec = tie.close (tie.spec (λ c. search needs) (λ c κs. search needs) (λ c. search needs) (λ c. search needs) (λ c κs. search needs) (λ c. search needs) (λ c. search needs) (λ c κs. search needs) (λ c. search needs) returns)
+chain-number-spec =
+    tie.close
+    (tie.spec (λ c. search needs) (λ c κs. search needs) (λ c. search needs) (λ c. search needs) (λ c κs. search needs) (λ c. search needs)
+    (λ c. search needs) (λ c κs. search needs) (λ c. search needs) returns)

@@ -5,7 +5,7 @@ use Rattle.message_result.proofs.after_refusal.Statement.{statement}
 use Rattle.message_result.proofs.after_refusal.Tie as tie
 use mathlib.Core.Path.{sym, _∙_}
 use borrow.Author.Tests.{eq-eqb, ne-eqb}
-use Rattle.message_answer.specs.Answer.{afterRefusal}
+use Rattle.message_answer.specs.Outcome.{afterRefusal}
 
 returns : tie.Need-returns
 unfolding afterRefusal

@@ -1,47 +1,36 @@
--- `unwrap_command` meets its contract: refused by a test, or read.
--- Assumes nothing.
+-- `unwrap_command` meets its contract: a session that breaks the rules counts as closed.
 use borrow.Author.Needs.{needs}
+use borrow.Author.Tests.{not-true, not-false}
+use mathlib.Core.Path.{sym, _∙_}
+use Rattle.octets.proofs.Tests.{outcome}
+use Rattle.session_rules.proofs.KeepsTheRules.{broken-not-served}
+use Rattle.message_answer.proofs.Required.{first-refused}
+use Rattle.message_protocol.specs.Command.{unwrapCommandChecks, cardUnwraps}
+use Rattle.message_result.specs.Results.{commandResult}
+use Rattle.message_result.proofs.StageEnds.{stage-refused}
+use Rattle.message_unwrap_command.specs.UnwrapCommand.{payloadOf}
 use Rattle.message_unwrap_command.proofs.unwrap_command.Statement.{statement}
 use Rattle.message_unwrap_command.proofs.unwrap_command.Tie as tie
-use mathlib.Core.Path.{sym, ap, _∙_}
-use lib.ListN.{length}
-use Rattle.message_answer.specs.Message.{CommandGiven}
-use Rattle.message_answer.specs.Answer.{Out, buffer}
-use Rattle.message_protocol.proofs.CallCases.{may-unwrap-command}
-use Rattle.message_result.specs.Results.{commandResult}
-use Rattle.message_result.proofs.Checks.{was-passed}
-use Rattle.message_unwrap_command.specs.UnwrapCommand.{payloadOf}
-use Rattle.message_unwrap_command.proofs.Stages.{when-passed, when-refused}
-
-read-command-requires : tie.Need-read-command-requires
-read-command-requires c κs =
-    let a = c .before .before .before .before .before .before .args in
-    let m = may-unwrap-command (a .session) (a .ins) (length (a .field .now)) tt (was-passed _ (sym (c .before .before .before .unwrap-command-checks .ensures) ∙ c .before .enum-told .given .1)) in
-    m .counted
 
 returns : tie.Need-returns
+unfolding cardUnwraps unwrapCommandChecks
 returns c =
-    let a = c .before .before .before .before .before .before .before .before .before .args in
-    let e = sym (when-passed (a .session) (a .ins) (a .p1) (a .p2) (a .field .now) (length (a .out .now)) (sym (c .before .before .before .before .before .before .unwrap-command-checks .ensures) ∙ c .before .before .before .before .enum-told .given .1)) in
-    let r = c .before .before .read-command .ensures in
-    (r .0 ∙ ap commandResult e, r .1 ∙ ap (λ (o : Out CommandGiven). buffer payloadOf (a .out .now) (o .answer)) e)
+    let tested = c .before .before in
+    let a = tested .before .before .before .args in
+    stage-refused (a .session) commandResult payloadOf (a .out .now)
+    (first-refused _ _ _ _ (broken-not-served (a .session) (outcome _ (tested .valid .ensures) (not-true _ (c .before .if1 .taken)))))
+    (c .refused-command .ensures)
 
-returns-2 : tie.Need-returns-2
-unfolding buffer
-returns-2 c =
-    let a = c .before .before .before .before .before .before .before .args in
-    let e = sym (when-refused (a .session) (a .ins) (a .p1) (a .p2) (a .field .now) (length (a .out .now)) _ (sym (c .before .before .before .before .unwrap-command-checks .ensures) ∙ c .before .before .checked .given .1)) in
-    (c .refused-command .ensures ∙ ap commandResult e, ap (λ (o : Out CommandGiven). buffer payloadOf (a .out .now) (o .answer)) e)
+unwrap-command-with-valid-session-requires : tie.Need-unwrap-command-with-valid-session-requires
+unwrap-command-with-valid-session-requires c κs = outcome _ (c .before .before .valid .ensures) (not-false _ (c .before .if1 .left))
 
 pub unwrap-command-spec : {M : Type 1} → statement M
 unwrap-command-spec =
     tie.close
     (tie.spec
     (λ c κs. search needs)
-    (λ c. search needs)
-    read-command-requires
-    (λ c. search needs)
     (λ c κs. search needs)
-    (λ c. search needs)
     returns
-    returns-2)
+    unwrap-command-with-valid-session-requires
+    (λ c. search needs)
+    (λ c. search needs))

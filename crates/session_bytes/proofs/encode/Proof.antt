@@ -1,5 +1,4 @@
 -- `encode` meets its contract: the two refusals in their order, then all the bytes.
--- Assumes nothing.
 use borrow.Author.Needs.{needs}
 use Rattle.session_bytes.proofs.encode.Statement.{statement}
 use Rattle.session_bytes.proofs.encode.Tie as tie
@@ -9,6 +8,7 @@ use lib.ListN.{length}
 use Rattle.octets.proofs.Tests.{outcome}
 use Rattle.octets.proofs.Writing.{wrote-all}
 use Rattle.session_rules.specs.Valid.{valid}
+use Rattle.session_bytes.specs.Saved.{sessionSize}
 use Rattle.session_bytes.specs.Saving.{encoding, encodedIn}
 
 returns : tie.Need-returns
@@ -18,7 +18,7 @@ returns c =
       rw (
         outcome (valid (a .session)) (c .before .before .before .before .before .before .valid .ensures)
             (c .before .before .before .before .before .if1 .taken),
-        le-leb 138 (length (a .out .now)) (c .before .before .before .before .if2 .taken),
+        le-leb sessionSize (length (a .out .now)) (c .before .before .before .before .if2 .taken),
       ),
       wrote-all (c .before .before .put-session .ensures),
     )
@@ -29,7 +29,7 @@ returns-2 c =
     let a = c .before .before .before .before .args in (
       rw (
         outcome (valid (a .session)) (c .before .before .valid .ensures) (c .before .if1 .taken),
-        lt-leb 138 (length (a .out .now)) (c .if2 .left),
+        lt-leb sessionSize (length (a .out .now)) (c .if2 .left),
       ),
       refl,
     )

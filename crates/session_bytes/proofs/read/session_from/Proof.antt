@@ -1,5 +1,4 @@
 -- `session_from` meets its contract: field by field.
--- Assumes nothing.
 use borrow.Author.Needs.{needs}
 use Rattle.session_bytes.proofs.read.session_from.Statement.{statement}
 use Rattle.session_bytes.proofs.read.session_from.Tie as tie
@@ -14,7 +13,7 @@ returns c =
       c .before .before .key-at3 .ensures,
       c .before .before .before .key-at2 .ensures,
       c .before .before .before .before .key-at .ensures,
-      c .before .before .before .before .before .count-from .ensures,
+      c .before .before .before .before .before .four-byte-number-at .ensures,
       c .before .before .before .before .before .before .phase-from .ensures,
       c .before .before .before .before .before .before .before .before .side-from .ensures,
     )

@@ -1,0 +1,4 @@
+pub mod Calls
+pub mod RefusalKeeps
+pub mod CommandChaining
+pub mod ResponseChaining

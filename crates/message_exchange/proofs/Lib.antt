@@ -1,0 +1,4 @@
+pub mod Places
+pub mod Channel
+pub mod Kept
+pub mod Examples
