@@ -156,7 +156,7 @@ other-header : Command
 other-header = record { header = record { ins = 0x20; p1 = 0x00; p2 = 0x80; le = false }; payload = 0x36 ∷ 0x35 ∷ 0x31 ∷ [] }
 
 other-data : Command
-other-data = record { header = record { ins = 0x20; p1 = 0x00; p2 = 0x98; le = false }; payload = 0x31 ∷ [] }
+other-data = record { header = record { ins = 0x20; p1 = 0x00; p2 = 0x98; le = false }; payload = 0x36 ∷ 0x35 ∷ 0x32 ∷ [] }
 
 -- GENERAL AUTHENTICATE without Le, and with it
 authenticate : Command
@@ -288,9 +288,10 @@ p2Of : List Command → ℕ
 p2Of [] = 0
 p2Of (m ∷ ms) = m .header .p2
 
-sizeOf : List Command → ℕ
-sizeOf [] = 0
-sizeOf (m ∷ ms) = length (m .payload)
+-- the third byte of the first command's data
+thirdOf : List Command → ℕ
+thirdOf [] = 0
+thirdOf (m ∷ ms) = getD (m .payload) 2 0
 
 leOf : List Command → ℕ
 leOf [] = 0
@@ -347,7 +348,7 @@ record Computed : Type 0 where
   same-chaining-value : Excepted flat keys begin repeated
 
 computed : Computed
-unfolding toyHash toyMac xorAll mask toyEncrypt toyDecrypt toy keys verify getData okay certificate fieldOf begin exchange two one-byte short counts same padding pad paddedLength marked markBefore unpad lengthField readLength isShortest rank allowed rightSize rightSecond rightValue need_else_⨾_ withLength readObject notedObject ended onObject walk readField object encryptedData leObject statusWord macObject commandObjects responseObjects commandField responseField ciphertextLength encryptedDataLength commandLength responseLength encodedHeader commandMacInput responseMacInput allZero keysEnd keysZero mcvsZero keepsPhase valid countsAsOpen isTurn keysFit openSuite opening dataIn insPermitted leNeed dataNeed commandPermitted statusPermitted commandWanted responseWanted bigEndian commandCounter responseCounter require_else_⨾_ _and-then_ afterRefusal concluded objectsOf textOf commandInput wrapCommandChecks unwrapCommandChecks commandMac commandCiphertext commandWrapped commandAccepted hostWraps openCommand cardUnwraps wrapResponseChecks unwrapResponseChecks responseMac responseCiphertext responseWrapped responseAccepted cardWraps openResponse hostUnwraps chainingValues chaining wrapEntry entryField fieldsFrom acceptedCommand acceptedResponse noted entered moved does step run flat among distinct forged received-as other-header other-data authenticate with-le more-commands more-responses header-changed data-changed le-changed status-changed one-wrapped never-wrapped check repeated mac-changed response-again mixed allBytes response-data-changed entry reply two-outstanding answer-to-nothing field-lost response-field-lost dataOf p2Of sizeOf leOf sw1Of verifiedText
+unfolding toyHash toyMac xorAll mask toyEncrypt toyDecrypt toy keys verify getData okay certificate fieldOf begin exchange two one-byte short counts same padding pad paddedLength marked markBefore unpad lengthField readLength isShortest rank allowed rightSize rightSecond rightValue need_else_⨾_ withLength readObject notedObject ended onObject walk readField object encryptedData leObject statusWord macObject commandObjects responseObjects commandField responseField ciphertextLength encryptedDataLength commandLength responseLength encodedHeader commandMacInput responseMacInput allZero keysEnd keysZero mcvsZero keepsPhase valid countsAsOpen isTurn keysFit openSuite opening dataIn insPermitted leNeed dataNeed commandPermitted statusPermitted commandWanted responseWanted bigEndian commandCounter responseCounter require_else_⨾_ _and-then_ afterRefusal concluded objectsOf textOf commandInput wrapCommandChecks unwrapCommandChecks commandMac commandCiphertext commandWrapped commandAccepted hostWraps openCommand cardUnwraps wrapResponseChecks unwrapResponseChecks responseMac responseCiphertext responseWrapped responseAccepted cardWraps openResponse hostUnwraps chainingValues chaining wrapEntry entryField fieldsFrom acceptedCommand acceptedResponse noted entered moved does step run flat among distinct forged received-as other-header other-data authenticate with-le more-commands more-responses header-changed data-changed le-changed status-changed one-wrapped never-wrapped check repeated mac-changed response-again mixed allBytes response-data-changed entry reply two-outstanding answer-to-nothing field-lost response-field-lost dataOf p2Of thirdOf leOf sw1Of verifiedText
 computed =
     record {
       counted = refl;
@@ -359,7 +360,7 @@ computed =
       a-above-w = λ v. let h = v .a≤w in omega (arith, h);
       r-above-s = λ v. let h = v .r≤s in omega (arith, h);
       header-differs = λ v. let e : _≡_ {A = ℕ} 0x80 0x98 = ap p2Of (v .commandsAgree) in omega (arith, e);
-      data-differs = λ v. let e : _≡_ {A = ℕ} 1 3 = ap sizeOf (v .commandsAgree) in omega (arith, e);
+      data-differs = λ v. let e : _≡_ {A = ℕ} 0x32 0x31 = ap thirdOf (v .commandsAgree) in omega (arith, e);
       le-differs = λ v. let e : _≡_ {A = ℕ} 1 0 = ap leOf (v .commandsAgree) in omega (arith, e);
       status-differs = λ v. let e : _≡_ {A = ℕ} 0x6A 0x90 = ap sw1Of (v .responsesAgree) in omega (arith, e);
       response-data-differs = λ v. let e : _≡_ {A = ℕ} 1 0 = ap dataOf (v .responsesAgree) in omega (arith, e);
