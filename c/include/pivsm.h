@@ -37,6 +37,7 @@
  * result, unless the call says otherwise. A bool must be true or false before a call, too. A call writes to a
  * buffer on PIVSM_OK only, and then only as many bytes as the length that it gives: the bytes behind those are the
  * caller's old ones. (The session alone is also written on PIVSM_BAD_MAC and PIVSM_BAD_PADDING, which close it.)
+ * session_len is written where the session is, and keeps its value at every other result.
  *
  * RESULTS. Each call returns PIVSM_OK or the first refusal that applies, in the order in which the call lists
  * them. At a refusal the lengths and other numbers that a call gives are 0, but for the size that is needed, at

@@ -75,7 +75,8 @@ delivers-commands w u h c t getsHost getsCard counted permitted short wrapFits u
     let gc = good c (i .card-open) (t .card-lengths) in
     let d = demand2-commands h c (command w) (length (wrapCommandGiven w .field)) (length (unwrapCommandGiven u .payload)) i
     (keyed host h (t .host-lengths) getsHost) counted permitted short (w .met .1 .1) wrapFits unwrapFits in
-    let unwrapped : CommandCarried w u (d .field) → does aesCiphers c (call card) ≡ record { answer = gave (record { payload = command w .payload; le = command w .header .le }); next = d .card } =
+    let unwrapped : CommandCarried w u (d .field) → does aesCiphers c (call card)
+    ≡ record { answer = gave (record { payload = command w .payload; le = command w .header .le }); next = d .card } =
     λ k. rw (k .ins, k .p1, k .p2, k .whole) (d .unwraps) in
     let m = command w .header in
     record {

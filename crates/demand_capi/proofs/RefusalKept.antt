@@ -68,10 +68,18 @@ only-16 r m e = let z : false ≡ true = met 6 (16 ∷ []) (subst (λ (i : ℕ).
 
 length-told : (e : Event) (r : Refusal) → served e .answer ≡ refused r → List·Memᴰ (number r) (16 ∷ order (call e)) → output e .written ≡ size r
 unfolding does
-length-told (wrapsCommand side c) r q m = ap (λ (l : WrapCommand.Left). l .written) (wrap-command-told c) ∙ ap (λ (a : Answer Bytes). wrapValues (wrapAnswer a) .len) q
-length-told (unwrapsCommand side c) r q m = ap (λ (l : UnwrapCommand.Left). l .written) (unwrap-command-told c) ∙ ap (λ (a : Answer CommandGiven). commandValues (commandAnswer a) .len) q
-length-told (wrapsResponse side c) r q m = ap (λ (l : WrapResponse.Left). l .written) (wrap-response-told c) ∙ ap (λ (a : Answer Bytes). wrapValues (wrapAnswer a) .len) q
-length-told (unwrapsResponse side c) r q m = ap (λ (l : UnwrapResponse.Left). l .written) (unwrap-response-told c) ∙ ap (λ (a : Answer Response). responseValues (responseAnswer a) .len) q
+length-told (wrapsCommand side c) r q m =
+    ap (λ (l : WrapCommand.Left). l .written) (wrap-command-told c)
+    ∙ ap (λ (a : Answer Bytes). wrapValues (wrapAnswer a) .len) q
+length-told (unwrapsCommand side c) r q m =
+    ap (λ (l : UnwrapCommand.Left). l .written) (unwrap-command-told c)
+    ∙ ap (λ (a : Answer CommandGiven). commandValues (commandAnswer a) .len) q
+length-told (wrapsResponse side c) r q m =
+    ap (λ (l : WrapResponse.Left). l .written) (wrap-response-told c)
+    ∙ ap (λ (a : Answer Bytes). wrapValues (wrapAnswer a) .len) q
+length-told (unwrapsResponse side c) r q m =
+    ap (λ (l : UnwrapResponse.Left). l .written) (unwrap-response-told c)
+    ∙ ap (λ (a : Answer Response). responseValues (responseAnswer a) .len) q
 length-told (closes side c) r q m = sym (no-size r (only-16 r m))
 
 status-told : (e : Event) (r : Refusal) → served e .answer ≡ refused r → List·Memᴰ (number r) (16 ∷ order (call e)) → output e .status ≡ status r
@@ -79,13 +87,17 @@ unfolding does hit
 status-told (wrapsCommand side c) r q m = sym (no-status r (lacks-13 _ r refl m))
 status-told (unwrapsCommand side c) r q m = sym (no-status r (lacks-13 _ r refl m))
 status-told (wrapsResponse side c) r q m = sym (no-status r (lacks-13 _ r refl m))
-status-told (unwrapsResponse side c) r q m = ap (λ (l : UnwrapResponse.Left). l .status) (unwrap-response-told c) ∙ ap (λ (a : Answer Response). responseValues (responseAnswer a) .status) q
+status-told (unwrapsResponse side c) r q m =
+    ap (λ (l : UnwrapResponse.Left). l .status) (unwrap-response-told c)
+    ∙ ap (λ (a : Answer Response). responseValues (responseAnswer a) .status) q
 status-told (closes side c) r q m = sym (no-status r (lacks-13 _ r refl m))
 
 le-none : (e : Event) (r : Refusal) → served e .answer ≡ refused r → output e .le ≡ false
 unfolding does
 le-none (wrapsCommand side c) r q = refl
-le-none (unwrapsCommand side c) r q = ap (λ (l : UnwrapCommand.Left). l .le) (unwrap-command-told c) ∙ ap (λ (a : Answer CommandGiven). commandValues (commandAnswer a) .le) q
+le-none (unwrapsCommand side c) r q =
+    ap (λ (l : UnwrapCommand.Left). l .le) (unwrap-command-told c)
+    ∙ ap (λ (a : Answer CommandGiven). commandValues (commandAnswer a) .le) q
 le-none (wrapsResponse side c) r q = refl
 le-none (unwrapsResponse side c) r q = refl
 le-none (closes side c) r q = refl
@@ -150,7 +162,9 @@ rest-keeps (wrapsCommand side c) z =
 rest-keeps (unwrapsCommand side c) z =
     let x = not-refused (served (unwrapsCommand side c) .answer) (sym (number-told (unwrapsCommand side c)) ∙ z) in
     ap (drop (output (unwrapsCommand side c) .written)) (output-told (unwrapsCommand side c) ∙ ap (buffer (λ (g : CommandGiven). g .payload) _) (x .1))
-    ∙ rest _ (x .0 .payload) _ (ap (λ (l : UnwrapCommand.Left). l .written) (unwrap-command-told c) ∙ ap (λ (a : Answer CommandGiven). commandValues (commandAnswer a) .len) (x .1))
+    ∙ rest _ (x .0 .payload) _
+    (ap (λ (l : UnwrapCommand.Left). l .written) (unwrap-command-told c)
+    ∙ ap (λ (a : Answer CommandGiven). commandValues (commandAnswer a) .len) (x .1))
 rest-keeps (wrapsResponse side c) z =
     let x = not-refused (served (wrapsResponse side c) .answer) (sym (number-told (wrapsResponse side c)) ∙ z) in
     ap (drop (output (wrapsResponse side c) .written)) (output-told (wrapsResponse side c) ∙ ap (buffer (λ (f : Bytes). f) _) (x .1))
@@ -158,7 +172,9 @@ rest-keeps (wrapsResponse side c) z =
 rest-keeps (unwrapsResponse side c) z =
     let x = not-refused (served (unwrapsResponse side c) .answer) (sym (number-told (unwrapsResponse side c)) ∙ z) in
     ap (drop (output (unwrapsResponse side c) .written)) (output-told (unwrapsResponse side c) ∙ ap (buffer (λ (m : Response). m .payload) _) (x .1))
-    ∙ rest _ (x .0 .payload) _ (ap (λ (l : UnwrapResponse.Left). l .written) (unwrap-response-told c) ∙ ap (λ (a : Answer Response). responseValues (responseAnswer a) .len) (x .1))
+    ∙ rest _ (x .0 .payload) _
+    (ap (λ (l : UnwrapResponse.Left). l .written) (unwrap-response-told c)
+    ∙ ap (λ (a : Answer Response). responseValues (responseAnswer a) .len) (x .1))
 rest-keeps (closes side c) z = refl
 
 -- ---- openings
@@ -188,7 +204,8 @@ suite-among side (Known suite) k room = go (keysFit (keyLength suite) k)
     s : Session
     s = fresh side suite (stored (k .enc)) (stored (k .mac)) (stored (k .rmac))
 
-    go : (fit : Bool) → let o = (if fit then record { answer = IsOpen; session = s } else notOpened side BadKeyLength) in Among (openedAs (o .answer) (o .session) room)
+    go : (fit : Bool) → let o = (if fit then record { answer = IsOpen; session = s } else notOpened side BadKeyLength) in
+        Among (openedAs (o .answer) (o .session) room)
     go true = saved-among s room
     go false = among BadKeyLength (List·Memᴰ·tail (List·Memᴰ·head refl)) (λ e. let o : ⊥ = omega (arith, e) in absurd o)
 suite-among side Unknown k room = among UnknownSuite (List·Memᴰ·head refl) (λ e. let o : ⊥ = omega (arith, e) in absurd o)

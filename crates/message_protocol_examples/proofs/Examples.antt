@@ -47,7 +47,7 @@ use Rattle.message_verify.specs.VerifiedText.{verifiedText}
 use Rattle.message_exchange.specs.Exchange.{Entry, messages, wrapEntry, fieldOf as entryField, fieldsFrom}
 use Rattle.message_protocol.specs.Command.{commandInput, wrapCommandChecks, unwrapCommandChecks, commandMac, commandCiphertext, commandWrapped, commandAccepted, hostWraps, openCommand, cardUnwraps}
 use Rattle.message_protocol.specs.Response.{wrapResponseChecks, unwrapResponseChecks, responseMac, responseCiphertext, responseWrapped, responseAccepted, cardWraps, openResponse, hostUnwraps}
-use Rattle.message_protocol.specs.Transcript.{Call, wrapCommand, unwrapCommand, wrapResponse, unwrapResponse, close, Transcript, chainingValues, chaining, acceptedCommand, acceptedResponse, noted, entered, State, moved, does, step, run, start}
+use Rattle.message_protocol.specs.Transcript.{Call, wrapCommand, unwrapCommand, wrapResponse, unwrapResponse, close, Transcript, chainingValues, chaining, acceptedCommand, acceptedResponse, noted, entered, State, moved, does, step, run, start, commands, responses}
 use Rattle.message_protocol.specs.Agreement.{Agrees, MacBreak, Excepted, AllBytes}
 
 -- ---- messages
@@ -151,7 +151,13 @@ forged m = commandField (toyEncrypt (keys .enc) (commandCounter 1) (m .payload))
 received-as : Command → Command → Call
 received-as m n = unwrapCommand Card (n .header .ins) (n .header .p1) (n .header .p2) (forged m) 3000
 
--- VERIFY with another P2, and with other data
+-- VERIFY with another INS, P1 and P2, and with other data
+other-ins : Command
+other-ins = record { header = record { ins = 0x24; p1 = 0x00; p2 = 0x98; le = false }; payload = verify .payload }
+
+other-p1 : Command
+other-p1 = record { header = record { ins = 0x20; p1 = 0xFF; p2 = 0x98; le = false }; payload = verify .payload }
+
 other-header : Command
 other-header = record { header = record { ins = 0x20; p1 = 0x00; p2 = 0x80; le = false }; payload = 0x36 ∷ 0x35 ∷ 0x31 ∷ [] }
 
@@ -171,6 +177,12 @@ more-commands = received-as verify verify ∷ []
 more-responses : List Call
 more-responses = wrapCommand Host verify 3000 ∷ unwrapResponse Host (okay .header) (responseField [] 0x90 0x00 (zeros 8)) 3000 ∷ []
 
+ins-changed : List Call
+ins-changed = wrapCommand Host verify 3000 ∷ received-as verify other-ins ∷ []
+
+p1-changed : List Call
+p1-changed = wrapCommand Host verify 3000 ∷ received-as verify other-p1 ∷ []
+
 header-changed : List Call
 header-changed = wrapCommand Host verify 3000 ∷ received-as verify other-header ∷ []
 
@@ -184,6 +196,11 @@ status-changed : List Call
 status-changed =
     wrapCommand Host verify 3000 ∷ received-as verify verify ∷ wrapResponse Card okay 3000
     ∷ unwrapResponse Host (record { sw1 = 0x6A; sw2 = 0x82 }) (responseField [] 0x6A 0x82 (zeros 8)) 3000 ∷ []
+
+sw2-changed : List Call
+sw2-changed =
+    wrapCommand Host verify 3000 ∷ received-as verify verify ∷ wrapResponse Card okay 3000
+    ∷ unwrapResponse Host (record { sw1 = 0x90; sw2 = 0x0C }) (responseField [] 0x90 0x0C (zeros 8)) 3000 ∷ []
 
 -- one command wrapped, and no more
 one-wrapped : List Call
@@ -233,10 +250,13 @@ unfolding allBytes
 are-bytes [] e = bytes-nil
 are-bytes (b ∷ bs) e = let h = both (ltb b 256) (allBytes bs) e in bytes-cons b bs (ltb-true b 256 (h .0)) (are-bytes bs (h .1))
 
--- a certificate under another's status, with the constant MAC
+one-byte-read : Response
+one-byte-read = record { header = okay .header; payload = 0x08 ∷ [] }
+
+-- a byte for another, with the constant MAC
 response-data-changed : List Call
 response-data-changed =
-    wrapCommand Host check 3000 ∷ received-as check check ∷ wrapResponse Card okay 3000
+    wrapCommand Host check 3000 ∷ received-as check check ∷ wrapResponse Card one-byte-read 3000
     ∷ unwrapResponse Host (okay .header) (responseField (toyEncrypt (keys .enc) (responseCounter 1) (0x07 ∷ [])) 0x90 0x00 (zeros 8)) 3000 ∷ []
 
 -- transcripts that no run leads to
@@ -249,15 +269,16 @@ reply = record { message = okay; input = [] }
 two-outstanding : Transcript
 two-outstanding =
     record {
-      commands = record { wrapped = entry ∷ entry ∷ []; fields = []; accepted = [] };
+      commands =
+          record { wrapped = entry ∷ entry ∷ []; fields = fieldsFrom (commands toy keys) 1 (entry ∷ entry ∷ []); accepted = [] };
       responses = record { wrapped = []; fields = []; accepted = [] };
     }
 
 answer-to-nothing : Transcript
 answer-to-nothing =
     record {
-      commands = record { wrapped = entry ∷ []; fields = []; accepted = [] };
-      responses = record { wrapped = reply ∷ []; fields = []; accepted = [] };
+      commands = record { wrapped = entry ∷ []; fields = fieldsFrom (commands toy keys) 1 (entry ∷ []); accepted = [] };
+      responses = record { wrapped = reply ∷ []; fields = fieldsFrom (responses toy keys) 1 (reply ∷ []); accepted = [] };
     }
 
 -- one wrapped, and no bytes handed out for it
@@ -275,20 +296,27 @@ response-field-lost =
       responses = record { wrapped = reply ∷ []; fields = [] ∷ []; accepted = [] };
     }
 
--- the data's length of the first response
+-- the first byte of the first response's data
 dataOf : List Response → ℕ
 dataOf [] = 0
-dataOf (m ∷ ms) = length (m .payload)
+dataOf (m ∷ ms) = getD (m .payload) 0 0
 
 abbrev Broken : List Call → Type 0
 Broken calls = Agrees flat keys (run flat keys begin calls .transcript) → ⊥
 
--- of the first message: P2, the data's length, whether Le is there; and SW1
+-- of the first message: INS, P1, P2, the third byte of the data, whether Le is there; SW1 and SW2
+insOf : List Command → ℕ
+insOf [] = 0
+insOf (m ∷ ms) = m .header .ins
+
+p1Of : List Command → ℕ
+p1Of [] = 0
+p1Of (m ∷ ms) = m .header .p1
+
 p2Of : List Command → ℕ
 p2Of [] = 0
 p2Of (m ∷ ms) = m .header .p2
 
--- the third byte of the first command's data
 thirdOf : List Command → ℕ
 thirdOf [] = 0
 thirdOf (m ∷ ms) = getD (m .payload) 2 0
@@ -296,6 +324,10 @@ thirdOf (m ∷ ms) = getD (m .payload) 2 0
 leOf : List Command → ℕ
 leOf [] = 0
 leOf (m ∷ ms) = if m .header .le then 1 else 0
+
+sw2Of : List Response → ℕ
+sw2Of [] = 0
+sw2Of (m ∷ ms) = m .header .sw2
 
 sw1Of : List Response → ℕ
 sw1Of [] = 0
@@ -322,10 +354,13 @@ record Computed : Type 0 where
   -- a above w, r above s, and each part of a message
   a-above-w : Broken more-commands
   r-above-s : Broken more-responses
+  ins-differs : Broken ins-changed
+  p1-differs : Broken p1-changed
   header-differs : Broken header-changed
   data-differs : Broken data-changed
   le-differs : Broken le-changed
   status-differs : Broken status-changed
+  sw2-differs : Broken sw2-changed
   response-data-differs : Broken response-data-changed
   -- the constant MAC accepts a command twice, which only equal chaining values except
   repeated-differs : Broken repeated
@@ -348,7 +383,7 @@ record Computed : Type 0 where
   same-chaining-value : Excepted flat keys begin repeated
 
 computed : Computed
-unfolding toyHash toyMac xorAll mask toyEncrypt toyDecrypt toy keys verify getData okay certificate fieldOf begin exchange two one-byte short counts same padding pad paddedLength marked markBefore unpad lengthField readLength isShortest rank allowed rightSize rightSecond rightValue need_else_⨾_ withLength readObject notedObject ended onObject walk readField object encryptedData leObject statusWord macObject commandObjects responseObjects commandField responseField ciphertextLength encryptedDataLength commandLength responseLength encodedHeader commandMacInput responseMacInput allZero keysEnd keysZero mcvsZero keepsPhase valid countsAsOpen isTurn keysFit openSuite opening dataIn insPermitted leNeed dataNeed commandPermitted statusPermitted commandWanted responseWanted bigEndian commandCounter responseCounter require_else_⨾_ _and-then_ afterRefusal concluded objectsOf textOf commandInput wrapCommandChecks unwrapCommandChecks commandMac commandCiphertext commandWrapped commandAccepted hostWraps openCommand cardUnwraps wrapResponseChecks unwrapResponseChecks responseMac responseCiphertext responseWrapped responseAccepted cardWraps openResponse hostUnwraps chainingValues chaining wrapEntry entryField fieldsFrom acceptedCommand acceptedResponse noted entered moved does step run flat among distinct forged received-as other-header other-data authenticate with-le more-commands more-responses header-changed data-changed le-changed status-changed one-wrapped never-wrapped check repeated mac-changed response-again mixed allBytes response-data-changed entry reply two-outstanding answer-to-nothing field-lost response-field-lost dataOf p2Of thirdOf leOf sw1Of verifiedText
+unfolding insOf p1Of sw2Of sw2-changed other-ins other-p1 ins-changed p1-changed one-byte-read toyHash toyMac xorAll mask toyEncrypt toyDecrypt toy keys verify getData okay certificate fieldOf begin exchange two one-byte short counts same padding pad paddedLength marked markBefore unpad lengthField readLength isShortest rank allowed rightSize rightSecond rightValue need_else_⨾_ withLength readObject notedObject ended onObject walk readField object encryptedData leObject statusWord macObject commandObjects responseObjects commandField responseField ciphertextLength encryptedDataLength commandLength responseLength encodedHeader commandMacInput responseMacInput allZero keysEnd keysZero mcvsZero keepsPhase valid countsAsOpen isTurn keysFit openSuite opening dataIn insPermitted leNeed dataNeed commandPermitted statusPermitted commandWanted responseWanted bigEndian commandCounter responseCounter require_else_⨾_ _and-then_ afterRefusal concluded objectsOf textOf commandInput wrapCommandChecks unwrapCommandChecks commandMac commandCiphertext commandWrapped commandAccepted hostWraps openCommand cardUnwraps wrapResponseChecks unwrapResponseChecks responseMac responseCiphertext responseWrapped responseAccepted cardWraps openResponse hostUnwraps chainingValues chaining wrapEntry entryField fieldsFrom acceptedCommand acceptedResponse noted entered moved does step run flat among distinct forged received-as other-header other-data authenticate with-le more-commands more-responses header-changed data-changed le-changed status-changed one-wrapped never-wrapped check repeated mac-changed response-again mixed allBytes response-data-changed entry reply two-outstanding answer-to-nothing field-lost response-field-lost dataOf p2Of thirdOf leOf sw1Of verifiedText
 computed =
     record {
       counted = refl;
@@ -359,11 +394,14 @@ computed =
       not-excepted = never;
       a-above-w = λ v. let h = v .a≤w in omega (arith, h);
       r-above-s = λ v. let h = v .r≤s in omega (arith, h);
+      ins-differs = λ v. let e : _≡_ {A = ℕ} 0x24 0x20 = ap insOf (v .commandsAgree) in omega (arith, e);
+      p1-differs = λ v. let e : _≡_ {A = ℕ} 0xFF 0x00 = ap p1Of (v .commandsAgree) in omega (arith, e);
       header-differs = λ v. let e : _≡_ {A = ℕ} 0x80 0x98 = ap p2Of (v .commandsAgree) in omega (arith, e);
       data-differs = λ v. let e : _≡_ {A = ℕ} 0x32 0x31 = ap thirdOf (v .commandsAgree) in omega (arith, e);
       le-differs = λ v. let e : _≡_ {A = ℕ} 1 0 = ap leOf (v .commandsAgree) in omega (arith, e);
       status-differs = λ v. let e : _≡_ {A = ℕ} 0x6A 0x90 = ap sw1Of (v .responsesAgree) in omega (arith, e);
-      response-data-differs = λ v. let e : _≡_ {A = ℕ} 1 0 = ap dataOf (v .responsesAgree) in omega (arith, e);
+      sw2-differs = λ v. let e : _≡_ {A = ℕ} 0x0C 0x00 = ap sw2Of (v .responsesAgree) in omega (arith, e);
+      response-data-differs = λ v. let e : _≡_ {A = ℕ} 0x07 0x08 = ap dataOf (v .responsesAgree) in omega (arith, e);
       repeated-differs = λ v. let h = v .a≤w in omega (arith, h);
       at-most-one-outstanding = λ v. let h = v .w≤r+1 in omega (arith, h);
       no-answer-to-nothing = λ v. let h = v .s≤a in omega (arith, h);

@@ -4,7 +4,6 @@ use mathlib.Core.List.{[]}
 use borrow.Author.Needs.{needs}
 use Rattle.octets.specs.Bytes.{Bytes}
 use Rattle.octets.specs.Write.{over}
-use Rattle.session.specs.declared.Session.{Session}
 use Rattle.message_answer.specs.Answer.{Answer, buffer}
 use Rattle.capi_values.specs.Values.{given, numberOf}
 use Rattle.capi_values.specs.declared.Values.{Values}
@@ -41,7 +40,8 @@ returns c =
       left-is _ _ _
           (was-read values none [] (heldIn (a .session .now) (a .len .now)) closes _ (reading .session-in .ensures .0) (told .enum-told .given .1)
           (given 0 0 0) _ [] refl
-          (c .before .before .replace-session .ensures ∙ ap (λ (s : Session). putIn (heldIn (a .session .now) (a .len .now)) s) (closing .close .ensures)) refl),
+          (c .before .before .replace-session .ensures
+          ∙ ap (putIn (heldIn (a .session .now) (a .len .now))) (closing .close .ensures)) refl),
       reading .session-in .ensures .1,
     )
 
@@ -51,7 +51,8 @@ returns-2 c =
     let reading = told .before .before .before in
     let a = reading .before .before .before .before .args in (
       left-is _ _ _
-          (was-not-read values none [] (heldIn (a .session .now) (a .len .now)) closes _ (reading .session-in .ensures .0) _ (told .read .given .1) (given (c .number .result) 0 0)
+          (was-not-read values none [] (heldIn (a .session .now) (a .len .now)) closes _ (reading .session-in .ensures .0)
+          _ (told .read .given .1) (given (c .number .result) 0 0)
           (λ i. given (c .number .ensures i) 0 0)),
       reading .session-in .ensures .1,
     )
