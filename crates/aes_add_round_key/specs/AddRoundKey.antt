@@ -3,5 +3,5 @@ use Rattle.octets.specs.Bytes.{◌⊕◌}
 use Rattle.aes_state.specs.State.{State, at, state}
 
 -- s'_(r,c) = s_(r,c) ⊕ k_(r,c), where column c of the round key k is w[4 * round + c]
-abbrev pub addRoundKey : State → State → State
-addRoundKey s k = state (λ r c. at s r c ⊕ at k r c)
+abbrev pub add_round_key : State → State → State
+add_round_key s k = state (λ r c. at s r c ⊕ at k r c)

@@ -7,10 +7,10 @@ use lib.Dec.{eqb}
 use Rattle.octets.specs.Bytes.{◌⊕◌}
 use Rattle.octets.specs.Choice.{if◌then◌else◌}
 use Rattle.octets.proofs.Xor.{xor_assoc}
-use Rattle.aes_gf.specs.Field.{xTimes, product}
+use Rattle.aes_gf.specs.Field.{x_times, product}
 
-pub bit-times-lt : (b a : ℕ) → a < 256 → b % 2 * a < 256
-bit-times-lt b a h = omega (arith, mul-le-mul_right {m = b % 2} {n = 1} a (omega arith), one-mul a)
+pub bit_times_lt : (b a : ℕ) → a < 256 → b % 2 * a < 256
+bit_times_lt b a h = omega (arith, mul-le-mul_right {m = b % 2} {n = 1} a (omega arith), one-mul a)
 
 -- the code multiplies by the bit where the definition chooses by it
 chosen : (d a : ℕ) → d < 2 → d * a ≡ (if eqb d 1 then a else 0)
@@ -18,17 +18,17 @@ chosen zero a h = zero-mul a
 chosen (suc zero) a h = one-mul a
 chosen (suc (suc d)) a h = let z : ⊥ = omega arith in absurd z
 
-step : (n b a : ℕ) → 0 < n → (b % 2 * a) ⊕ product (n - 1) (b / 2) (xTimes a) ≡ product n b a
+step : (n b a : ℕ) → 0 < n → (b % 2 * a) ⊕ product (n - 1) (b / 2) (x_times a) ≡ product n b a
 unfolding product
 step zero b a h = let z : ⊥ = omega arith in absurd z
 step (suc n) b a h =
     let e : suc n - 1 ≡ n = omega arith in
-    ap₂ (λ (x k : ℕ). x ⊕ product k (b / 2) (xTimes a)) (chosen (b % 2) a (omega arith)) e
+    ap₂ (λ (x k : ℕ). x ⊕ product k (b / 2) (x_times a)) (chosen (b % 2) a (omega arith)) e
 
-pub product-more : (s n b a x : ℕ) {p : ℕ} → 0 < n → x ≡ xTimes a → s ⊕ product n b a ≡ p
+pub product_more : (s n b a x : ℕ) {p : ℕ} → 0 < n → x ≡ x_times a → s ⊕ product n b a ≡ p
     → (s ⊕ (b % 2 * a)) ⊕ product (n - 1) (b / 2) x ≡ p
-product-more s n b a x h e inv =
+product_more s n b a x h e inv =
     ap (λ (y : ℕ). (s ⊕ (b % 2 * a)) ⊕ product (n - 1) (b / 2) y) e
-    ∙ xor_assoc s (b % 2 * a) (product (n - 1) (b / 2) (xTimes a))
+    ∙ xor_assoc s (b % 2 * a) (product (n - 1) (b / 2) (x_times a))
     ∙ ap (λ (y : ℕ). s ⊕ y) (step n b a h)
     ∙ inv

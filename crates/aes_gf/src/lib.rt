@@ -1,10 +1,10 @@
 // Bytes as elements of GF(2^8) (FIPS 197, 4).
 ghost use Rattle.std.specs.Prelude.{◌≡◌};
-ghost use Rattle.aes_gf.specs.Field.{xTimes, ◌•◌};
+ghost use Rattle.aes_gf.specs.Field.{x_times, ◌•◌};
 
 // b times x.
 pub fn x_times(b: u8) -> u8
-    ensures { result ≡ xTimes b }
+    ensures { result ≡ x_times b }
 {
     (b << 1) ^ (b / 128 % 2 * 0x1b)
 }

@@ -2,14 +2,14 @@
 use Prim.Native.Nat.{ℕ, zero, suc, ◌<◌}
 use lib.Dec.{lit<}
 use Rattle.aes_gf.specs.Field.{◌•◌}
-use Rattle.aes_gf.proofs.XTimes.{times-byte}
+use Rattle.aes_gf.proofs.XTimes.{times_byte}
 use Rattle.aes_inverses.specs.Inverse.{powers, inverse}
 
-powers-byte : (n b : ℕ) → powers n b < 256
+powers_byte : (n b : ℕ) → powers n b < 256
 unfolding powers
-powers-byte zero b = lit< tt
-powers-byte (suc n) b = times-byte b (powers n (b • b)) (powers-byte n (b • b))
+powers_byte zero b = lit< tt
+powers_byte (suc n) b = times_byte b (powers n (b • b)) (powers_byte n (b • b))
 
-pub inverse-byte : (b : ℕ) → inverse b < 256
+pub inverse_byte : (b : ℕ) → inverse b < 256
 unfolding inverse
-inverse-byte b = powers-byte 7 (b • b)
+inverse_byte b = powers_byte 7 (b • b)

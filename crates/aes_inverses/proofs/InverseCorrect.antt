@@ -6,18 +6,18 @@ use native.Mathlib.Nat.{lt_irrefl}
 use lib.Dec.{eqb, eqb→eq}
 use lib.ListN.{get_or}
 use Rattle.octets.proofs.Table.{at_byte}
-use Rattle.aes_gf.specs.Field.{xTimes, product, ◌•◌}
+use Rattle.aes_gf.specs.Field.{x_times, product, ◌•◌}
 use Rattle.aes_inverses.specs.Inverse.{inverse}
-use Rattle.aes_inverses.proofs.Inverses.{inverses, inverse-at}
+use Rattle.aes_inverses.proofs.Inverses.{inverses, inverse_at}
 
 -- 0 has none
 inverts : ℕ → Bool
 inverts zero = true
 inverts (suc b) = eqb (suc b • get_or inverses (suc b) 0) 1
 
-pub inverse-correct : (b : ℕ) → 0 < b → b < 256 → b • inverse b ≡ 1
-unfolding inverts xTimes product ◌•◌
-inverse-correct zero p h = absurd (lt_irrefl zero p)
-inverse-correct (suc b) p h =
-    ap (λ (x : ℕ). suc b • x) (sym (inverse-at (suc b) h))
+pub inverse_correct : (b : ℕ) → 0 < b → b < 256 → b • inverse b ≡ 1
+unfolding inverts x_times product ◌•◌
+inverse_correct zero p h = absurd (lt_irrefl zero p)
+inverse_correct (suc b) p h =
+    ap (λ (x : ℕ). suc b • x) (sym (inverse_at (suc b) h))
     ∙ eqb→eq (suc b • get_or inverses (suc b) 0) 1 (at_byte inverts tt (suc b) h)

@@ -7,7 +7,7 @@ use lib.Dec.{eqb, eqb→eq}
 use lib.ListN.{get_or}
 use Rattle.octets.specs.Bytes.{Bytes}
 use Rattle.octets.proofs.Table.{at}
-use Rattle.aes_gf.specs.Field.{xTimes, product, ◌•◌}
+use Rattle.aes_gf.specs.Field.{x_times, product, ◌•◌}
 use Rattle.aes_inverses.specs.Inverse.{powers, inverse}
 
 abbrev pub inverses : Bytes
@@ -32,6 +32,6 @@ inverses =
 right : ℕ → ℕ → Bool
 right b x = eqb x (inverse b)
 
-pub inverse-at : (b : ℕ) → b < 256 → get_or inverses b 0 ≡ inverse b
-unfolding right xTimes product ◌•◌ powers inverse
-inverse-at b h = eqb→eq (get_or inverses b 0) (inverse b) (at right inverses tt b h)
+pub inverse_at : (b : ℕ) → b < 256 → get_or inverses b 0 ≡ inverse b
+unfolding right x_times product ◌•◌ powers inverse
+inverse_at b h = eqb→eq (get_or inverses b 0) (inverse b) (at right inverses tt b h)

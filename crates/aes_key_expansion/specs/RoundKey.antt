@@ -4,5 +4,5 @@ use Rattle.octets.specs.Bytes.{tabulate}
 use Rattle.aes_state.specs.State.{Word, State}
 
 -- the round key of a round: w[4 * round .. 4 * round + 3]
-abbrev pub roundKey : List Word → ℕ → State
-roundKey w round = tabulate 4 (λ c. get_or w (4 * round + c) [])
+abbrev pub round_key : List Word → ℕ → State
+round_key w round = tabulate 4 (λ c. get_or w (4 * round + c) [])

@@ -1,10 +1,10 @@
 // The key sizes, KeyExpansion (FIPS 197, 5.2), and the round keys of a schedule. A schedule is made once and lent: 60 words, of
 // which a 128-bit key uses 44.
 ghost use Rattle.std.specs.Prelude.{◌≡◌, ◌+◌, ◌*◌, ◌<◌, ◌≤◌};
-ghost use Rattle.aes_sbox.specs.SBox.{IsTable, sBox};
+ghost use Rattle.aes_sbox.specs.SBox.{IsTable, s_box};
 ghost use Rattle.aes_key_expansion.specs.KeySizes.{nk, nr};
-ghost use Rattle.aes_key_expansion.specs.KeyExpansion.{rotWord, rcon, keyWord, nextWord, schedule};
-ghost use Rattle.aes_key_expansion.specs.RoundKey.{roundKey};
+ghost use Rattle.aes_key_expansion.specs.KeyExpansion.{rot_word, rcon, key_word, next_word, schedule};
+ghost use Rattle.aes_key_expansion.specs.RoundKey.{round_key};
 
 use aes_add_round_key::add_word;
 use aes_sub_bytes::sub_word;
@@ -41,7 +41,7 @@ fn round_constant(j: usize) -> [u8; 4]
 
 // FIPS 197, 5.2: RotWord.
 fn rot_word(a: [u8; 4]) -> [u8; 4]
-    ensures { result ≡ rotWord a }
+    ensures { result ≡ rot_word a }
 {
     [a[1], a[2], a[3], a[0]]
 }
@@ -49,7 +49,7 @@ fn rot_word(a: [u8; 4]) -> [u8; 4]
 // Word i of the key.
 fn key_word(key: &[u8; 32], i: usize) -> [u8; 4]
     requires { i < 8 }
-    ensures { result ≡ keyWord key.now i }
+    ensures { result ≡ key_word key.now i }
 {
     let j = 4 * i;
     [key[j], key[j + 1], key[j + 2], key[j + 3]]
@@ -57,9 +57,9 @@ fn key_word(key: &[u8; 32], i: usize) -> [u8; 4]
 
 // FIPS 197, 5.2: w[i]. Each case makes its own sum: key set-up and one block ran a third faster so.
 fn next_word(table: &[u8; 256], n: usize, key: &[u8; 32], w: &[[u8; 4]; 60], i: usize) -> [u8; 4]
-    requires table { IsTable sBox table.now }
+    requires table { IsTable s_box table.now }
     requires le_n { (4 ≤ n) × (n ≤ 8) × (i < 4 * n + 28) }
-    ensures { result ≡ nextWord n key.now w.now i }
+    ensures { result ≡ next_word n key.now w.now i }
 {
     if i < n {
         return key_word(key, i);
@@ -109,7 +109,7 @@ pub fn key_expansion(size: KeySize, key: [u8; 32]) -> [[u8; 4]; 60]
 // The four words of a round key.
 pub fn round_key(w: &[[u8; 4]; 60], round: usize) -> [[u8; 4]; 4]
     requires { round < 15 }
-    ensures { result ≡ roundKey w.now round }
+    ensures { result ≡ round_key w.now round }
 {
     let i = 4 * round;
     [w[i], w[i + 1], w[i + 2], w[i + 3]]

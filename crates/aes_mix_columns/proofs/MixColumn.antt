@@ -7,18 +7,18 @@ use lib.ListN.{get_or, length}
 use Rattle.octets.specs.Bytes.{◌⊕◌}
 use Rattle.octets.specs.Choice.{if◌then◌else◌}
 use Rattle.octets.proofs.ListsOfFour.{four}
-use Rattle.octets.proofs.Tabulate.{tabulate-getD}
-use Rattle.octets.proofs.Xor.{xor-byte}
-use Rattle.aes_gf.specs.Field.{xTimes, product, ◌•◌}
-use Rattle.aes_mix_columns.specs.MixColumn.{Column, mixColumn, invMixColumn}
-use Rattle.aes_gf.proofs.XTimes.{times-byte}
-use Rattle.aes_mix_columns.proofs.Sums.{Sum, byte, none, plus, byX, equal}
+use Rattle.octets.proofs.Tabulate.{tabulate_get_d}
+use Rattle.octets.proofs.Xor.{xor_byte}
+use Rattle.aes_gf.specs.Field.{x_times, product, ◌•◌}
+use Rattle.aes_mix_columns.specs.MixColumn.{Column, mix_column, inv_mix_column}
+use Rattle.aes_gf.proofs.XTimes.{times_byte}
+use Rattle.aes_mix_columns.proofs.Sums.{Sum, byte, none, plus, by_x, equal}
 
 -- ---- products
 
 abbrev products : ℕ → ℕ → Sum → Sum
 products zero b a = none
-products (suc n) b a = plus (if eqb (b % 2) 1 then a else none) (products n (b / 2) (byX a))
+products (suc n) b a = plus (if eqb (b % 2) 1 then a else none) (products n (b / 2) (by_x a))
 
 -- b • a
 abbrev by : ℕ → Sum → Sum
@@ -28,32 +28,32 @@ by b a = products 8 b a
 abbrev one : ℕ → ℕ → ℕ
 one a i = a
 
-pub times-02 : (a : ℕ) → xTimes a ≡ 2 • a
+pub times_02 : (a : ℕ) → x_times a ≡ 2 • a
 unfolding product ◌•◌
-times-02 a = equal (one a) 1 (byX (byte 0)) (by 2 (byte 0)) tt
+times_02 a = equal (one a) 1 (by_x (byte 0)) (by 2 (byte 0)) tt
 
-pub times-03 : (a : ℕ) → xTimes a ⊕ a ≡ 3 • a
+pub times_03 : (a : ℕ) → x_times a ⊕ a ≡ 3 • a
 unfolding product ◌•◌
-times-03 a = equal (one a) 1 (plus (byX (byte 0)) (byte 0)) (by 3 (byte 0)) tt
+times_03 a = equal (one a) 1 (plus (by_x (byte 0)) (byte 0)) (by 3 (byte 0)) tt
 
-abbrev byXXX : Sum
-byXXX = byX (byX (byX (byte 0)))
+abbrev by_xXX : Sum
+by_xXX = by_x (by_x (by_x (byte 0)))
 
-pub times-09 : (a : ℕ) → xTimes (xTimes (xTimes a)) ⊕ a ≡ 0x09 • a
+pub times_09 : (a : ℕ) → x_times (x_times (x_times a)) ⊕ a ≡ 0x09 • a
 unfolding product ◌•◌
-times-09 a = equal (one a) 1 (plus byXXX (byte 0)) (by 0x09 (byte 0)) tt
+times_09 a = equal (one a) 1 (plus by_xXX (byte 0)) (by 0x09 (byte 0)) tt
 
-pub times-0b : (a : ℕ) → xTimes (xTimes (xTimes a)) ⊕ xTimes a ⊕ a ≡ 0x0b • a
+pub times_0b : (a : ℕ) → x_times (x_times (x_times a)) ⊕ x_times a ⊕ a ≡ 0x0b • a
 unfolding product ◌•◌
-times-0b a = equal (one a) 1 (plus (plus byXXX (byX (byte 0))) (byte 0)) (by 0x0b (byte 0)) tt
+times_0b a = equal (one a) 1 (plus (plus by_xXX (by_x (byte 0))) (byte 0)) (by 0x0b (byte 0)) tt
 
-pub times-0d : (a : ℕ) → xTimes (xTimes (xTimes a)) ⊕ xTimes (xTimes a) ⊕ a ≡ 0x0d • a
+pub times_0d : (a : ℕ) → x_times (x_times (x_times a)) ⊕ x_times (x_times a) ⊕ a ≡ 0x0d • a
 unfolding product ◌•◌
-times-0d a = equal (one a) 1 (plus (plus byXXX (byX (byX (byte 0)))) (byte 0)) (by 0x0d (byte 0)) tt
+times_0d a = equal (one a) 1 (plus (plus by_xXX (by_x (by_x (byte 0)))) (byte 0)) (by 0x0d (byte 0)) tt
 
-pub times-0e : (a : ℕ) → xTimes (xTimes (xTimes a)) ⊕ xTimes (xTimes a) ⊕ xTimes a ≡ 0x0e • a
+pub times_0e : (a : ℕ) → x_times (x_times (x_times a)) ⊕ x_times (x_times a) ⊕ x_times a ≡ 0x0e • a
 unfolding product ◌•◌
-times-0e a = equal (one a) 1 (plus (plus byXXX (byX (byX (byte 0)))) (byX (byte 0))) (by 0x0e (byte 0)) tt
+times_0e a = equal (one a) 1 (plus (plus by_xXX (by_x (by_x (byte 0)))) (by_x (byte 0))) (by 0x0e (byte 0)) tt
 
 -- ---- a row of products
 
@@ -72,22 +72,22 @@ mixed f =
     (plus (plus (plus (byte 0) (byte 1)) (by 2 (byte 2))) (by 3 (byte 3)))
     (plus (plus (plus (by 3 (byte 0)) (byte 1)) (byte 2)) (by 2 (byte 3)))
 
-pub invMixColumn-mixColumn : (s : Column) → length s ≡ 4 → invMixColumn (mixColumn s) ≡ s
-unfolding product ◌•◌ mixColumn invMixColumn
-invMixColumn-mixColumn s h =
+pub inv_mix_column-mix_column : (s : Column) → length s ≡ 4 → inv_mix_column (mix_column s) ≡ s
+unfolding product ◌•◌ mix_column inv_mix_column
+inv_mix_column-mix_column s h =
     let ρ : ℕ → ℕ = λ i. get_or s i 0 in
     four
     (equal ρ 4 (mixed (row 0x0e 0x0b 0x0d 0x09)) (byte 0) tt)
     (equal ρ 4 (mixed (row 0x09 0x0e 0x0b 0x0d)) (byte 1) tt)
     (equal ρ 4 (mixed (row 0x0d 0x09 0x0e 0x0b)) (byte 2) tt)
     (equal ρ 4 (mixed (row 0x0b 0x0d 0x09 0x0e)) (byte 3) tt)
-    ∙ tabulate-getD 0 4 s h
+    ∙ tabulate_get_d 0 4 s h
 
 -- ---- MixColumns makes bytes of bytes
 
-pub mixColumn-byte : (a : Column) → ((r : ℕ) → r < 4 → get_or a r 0 < 256) → (r : ℕ) → r < 4 → get_or (mixColumn a) r 0 < 256
-unfolding mixColumn
-mixColumn-byte a h r hr = row r hr
+pub mix_column_byte : (a : Column) → ((r : ℕ) → r < 4 → get_or a r 0 < 256) → (r : ℕ) → r < 4 → get_or (mix_column a) r 0 < 256
+unfolding mix_column
+mix_column_byte a h r hr = row r hr
   where
     a0 : ℕ
     a0 = get_or a 0 0
@@ -102,11 +102,11 @@ mixColumn-byte a h r hr = row r hr
     a3 = get_or a 3 0
 
     sum : (w x y z : ℕ) → w < 256 → x < 256 → y < 256 → z < 256 → w ⊕ x ⊕ y ⊕ z < 256
-    sum w x y z hw hx hy hz = xor-byte (w ⊕ x ⊕ y) z (xor-byte (w ⊕ x) y (xor-byte w x hw hx) hy) hz
+    sum w x y z hw hx hy hz = xor_byte (w ⊕ x ⊕ y) z (xor_byte (w ⊕ x) y (xor_byte w x hw hx) hy) hz
 
-    row : (r : ℕ) → r < 4 → get_or (mixColumn a) r 0 < 256
-    row zero k = sum (2 • a0) (3 • a1) a2 a3 (times-byte 2 a0 (h 0 (lit< tt))) (times-byte 3 a1 (h 1 (lit< tt))) (h 2 (lit< tt)) (h 3 (lit< tt))
-    row (suc zero) k = sum a0 (2 • a1) (3 • a2) a3 (h 0 (lit< tt)) (times-byte 2 a1 (h 1 (lit< tt))) (times-byte 3 a2 (h 2 (lit< tt))) (h 3 (lit< tt))
-    row (suc (suc zero)) k = sum a0 a1 (2 • a2) (3 • a3) (h 0 (lit< tt)) (h 1 (lit< tt)) (times-byte 2 a2 (h 2 (lit< tt))) (times-byte 3 a3 (h 3 (lit< tt)))
-    row (suc (suc (suc zero))) k = sum (3 • a0) a1 a2 (2 • a3) (times-byte 3 a0 (h 0 (lit< tt))) (h 1 (lit< tt)) (h 2 (lit< tt)) (times-byte 2 a3 (h 3 (lit< tt)))
+    row : (r : ℕ) → r < 4 → get_or (mix_column a) r 0 < 256
+    row zero k = sum (2 • a0) (3 • a1) a2 a3 (times_byte 2 a0 (h 0 (lit< tt))) (times_byte 3 a1 (h 1 (lit< tt))) (h 2 (lit< tt)) (h 3 (lit< tt))
+    row (suc zero) k = sum a0 (2 • a1) (3 • a2) a3 (h 0 (lit< tt)) (times_byte 2 a1 (h 1 (lit< tt))) (times_byte 3 a2 (h 2 (lit< tt))) (h 3 (lit< tt))
+    row (suc (suc zero)) k = sum a0 a1 (2 • a2) (3 • a3) (h 0 (lit< tt)) (h 1 (lit< tt)) (times_byte 2 a2 (h 2 (lit< tt))) (times_byte 3 a3 (h 3 (lit< tt)))
+    row (suc (suc (suc zero))) k = sum (3 • a0) a1 a2 (2 • a3) (times_byte 3 a0 (h 0 (lit< tt))) (h 1 (lit< tt)) (h 2 (lit< tt)) (times_byte 2 a3 (h 3 (lit< tt)))
     row (suc (suc (suc (suc n)))) k = let z : ⊥ = omega arith in absurd z

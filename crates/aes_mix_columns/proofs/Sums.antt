@@ -12,9 +12,9 @@ use lib.Dec.{T, eqb, ltb, ltb→lt}
 use Rattle.octets.specs.Bytes.{◌⊕◌}
 use Rattle.octets.specs.Choice.{if◌then◌else◌}
 use Rattle.octets.proofs.Table.{both_left, both_right}
-use Rattle.octets.proofs.Xor.{swap, xor-eq}
-use Rattle.aes_gf.specs.Field.{xTimes}
-use Rattle.aes_gf.proofs.XTimes.{xTimes-sum, xTimes-zero}
+use Rattle.octets.proofs.Xor.{swap, xor_eq}
+use Rattle.aes_gf.specs.Field.{x_times}
+use Rattle.aes_gf.proofs.XTimes.{x_times_sum, x_times-zero}
 
 -- ---- polynomials over GF(2), lowest coefficient first
 
@@ -34,28 +34,28 @@ add (x ∷ p) (y ∷ q) = differs x y ∷ add p q
 -- the polynomial times the byte a
 abbrev times : Polynomial → ℕ → ℕ
 times [] a = 0
-times (x ∷ p) a = (if x then a else 0) ⊕ times p (xTimes a)
+times (x ∷ p) a = (if x then a else 0) ⊕ times p (x_times a)
 
-chosen-sum : (x y : Bool) (a : ℕ) → (if differs x y then a else 0) ≡ (if x then a else 0) ⊕ (if y then a else 0)
-chosen-sum false y a = refl
-chosen-sum true false a = sym (xor_zero_r a)
-chosen-sum true true a = sym (xor_self a)
+chosen_sum : (x y : Bool) (a : ℕ) → (if differs x y then a else 0) ≡ (if x then a else 0) ⊕ (if y then a else 0)
+chosen_sum false y a = refl
+chosen_sum true false a = sym (xor_zero_r a)
+chosen_sum true true a = sym (xor_self a)
 
-times-sum : (p q : Polynomial) (a : ℕ) → times (add p q) a ≡ times p a ⊕ times q a
-times-sum [] q a = refl
-times-sum (x ∷ p) [] a = sym (xor_zero_r ((if x then a else 0) ⊕ times p (xTimes a)))
-times-sum (x ∷ p) (y ∷ q) a =
-    ap₂ ◌⊕◌ (chosen-sum x y a) (times-sum p q (xTimes a))
-    ∙ swap (if x then a else 0) (if y then a else 0) (times p (xTimes a)) (times q (xTimes a))
+times_sum : (p q : Polynomial) (a : ℕ) → times (add p q) a ≡ times p a ⊕ times q a
+times_sum [] q a = refl
+times_sum (x ∷ p) [] a = sym (xor_zero_r ((if x then a else 0) ⊕ times p (x_times a)))
+times_sum (x ∷ p) (y ∷ q) a =
+    ap₂ ◌⊕◌ (chosen_sum x y a) (times_sum p q (x_times a))
+    ∙ swap (if x then a else 0) (if y then a else 0) (times p (x_times a)) (times q (x_times a))
 
-chosen-x : (x : Bool) (a : ℕ) → (if x then xTimes a else 0) ≡ xTimes (if x then a else 0)
-chosen-x false a = sym xTimes-zero
-chosen-x true a = refl
+chosen_x : (x : Bool) (a : ℕ) → (if x then x_times a else 0) ≡ x_times (if x then a else 0)
+chosen_x false a = sym x_times-zero
+chosen_x true a = refl
 
-times-x : (p : Polynomial) (a : ℕ) → times p (xTimes a) ≡ xTimes (times p a)
-times-x [] a = sym xTimes-zero
-times-x (x ∷ p) a =
-    ap₂ ◌⊕◌ (chosen-x x a) (times-x p (xTimes a)) ∙ sym (xTimes-sum (if x then a else 0) (times p (xTimes a)))
+times_x : (p : Polynomial) (a : ℕ) → times p (x_times a) ≡ x_times (times p a)
+times_x [] a = sym x_times-zero
+times_x (x ∷ p) a =
+    ap₂ ◌⊕◌ (chosen_x x a) (times_x p (x_times a)) ∙ sym (x_times_sum (if x then a else 0) (times p (x_times a)))
 
 abbrev is_zero : Polynomial → Bool
 is_zero [] = true
@@ -65,7 +65,7 @@ is_zero (false ∷ p) = is_zero p
 times_zero : (p : Polynomial) (a : ℕ) → T (is_zero p) → times p a ≡ 0
 times_zero [] a t = refl
 times_zero (true ∷ p) a t = absurd t
-times_zero (false ∷ p) a t = times_zero p (xTimes a) t
+times_zero (false ∷ p) a t = times_zero p (x_times a) t
 
 -- ---- the sum of f 0, .., f (n - 1)
 
@@ -77,17 +77,17 @@ total_ext : (n : ℕ) {f g : ℕ → ℕ} → ((i : ℕ) → i < n → f i ≡ g
 total_ext zero h = refl
 total_ext (suc n) h = ap₂ ◌⊕◌ (total_ext n (λ i k. h i (omega arith))) (h n (omega arith))
 
-total-sum : (n : ℕ) (f g : ℕ → ℕ) → total n (λ i. f i ⊕ g i) ≡ total n f ⊕ total n g
-total-sum zero f g = refl
-total-sum (suc n) f g = ap (λ (x : ℕ). x ⊕ (f n ⊕ g n)) (total-sum n f g) ∙ swap (total n f) (total n g) (f n) (g n)
+total_sum : (n : ℕ) (f g : ℕ → ℕ) → total n (λ i. f i ⊕ g i) ≡ total n f ⊕ total n g
+total_sum zero f g = refl
+total_sum (suc n) f g = ap (λ (x : ℕ). x ⊕ (f n ⊕ g n)) (total_sum n f g) ∙ swap (total n f) (total n g) (f n) (g n)
 
-total-x : (n : ℕ) (f : ℕ → ℕ) → total n (λ i. xTimes (f i)) ≡ xTimes (total n f)
-total-x zero f = sym xTimes-zero
-total-x (suc n) f = ap (λ (x : ℕ). x ⊕ xTimes (f n)) (total-x n f) ∙ sym (xTimes-sum (total n f) (f n))
+total_x : (n : ℕ) (f : ℕ → ℕ) → total n (λ i. x_times (f i)) ≡ x_times (total n f)
+total_x zero f = sym x_times-zero
+total_x (suc n) f = ap (λ (x : ℕ). x ⊕ x_times (f n)) (total_x n f) ∙ sym (x_times_sum (total n f) (f n))
 
-total-none : (n : ℕ) → total n (λ i. 0) ≡ 0
-total-none zero = refl
-total-none (suc n) = ap (λ (x : ℕ). x ⊕ 0) (total-none n)
+total_none : (n : ℕ) → total n (λ i. 0) ≡ 0
+total_none zero = refl
+total_none (suc n) = ap (λ (x : ℕ). x ⊕ 0) (total_none n)
 
 -- ---- sums of the bytes ρ 0, ρ 1, ..
 
@@ -95,27 +95,27 @@ pub data Sum : Type 0 where
   byte : ℕ → Sum
   none : Sum
   plus : Sum → Sum → Sum
-  byX : Sum → Sum
+  by_x : Sum → Sum
 
 abbrev pub value : (ℕ → ℕ) → Sum → ℕ
 value ρ (byte v) = ρ v
 value ρ none = 0
 value ρ (plus e f) = value ρ e ⊕ value ρ f
-value ρ (byX e) = xTimes (value ρ e)
+value ρ (by_x e) = x_times (value ρ e)
 
 -- the coefficient of byte i
 abbrev coefficient : ℕ → Sum → Polynomial
 coefficient i (byte v) = if eqb i v then true ∷ [] else []
 coefficient i none = []
 coefficient i (plus e f) = add (coefficient i e) (coefficient i f)
-coefficient i (byX e) = false ∷ coefficient i e
+coefficient i (by_x e) = false ∷ coefficient i e
 
 -- every byte of the sum is among the first n
 abbrev within : ℕ → Sum → Bool
 within n (byte v) = ltb v n
 within n none = true
 within n (plus e f) = within n e && within n f
-within n (byX e) = within n e
+within n (by_x e) = within n e
 
 -- the first n bytes have coefficient zero
 abbrev vanishes : ℕ → Sum → Bool
@@ -134,11 +134,11 @@ module _ (ρ : ℕ → ℕ) where
   same v = rw (eq-eqb v v refl) (xor_zero_r (ρ v))
 
   absent : (n v : ℕ) → n ≤ v → normal n (byte v) ≡ 0
-  absent n v h = total_ext n (λ i k. other i v (λ e. omega arith)) ∙ total-none n
+  absent n v h = total_ext n (λ i k. other i v (λ e. omega arith)) ∙ total_none n
 
-  normal-byte : (n v : ℕ) → v < n → normal n (byte v) ≡ ρ v
-  normal-byte zero v h = absurd (not-suc-le-zero h)
-  normal-byte (suc n) v h = by (λ k. normal-byte n v k) (eqb n v) refl
+  normal_byte : (n v : ℕ) → v < n → normal n (byte v) ≡ ρ v
+  normal_byte zero v h = absurd (not-suc-le-zero h)
+  normal_byte (suc n) v h = by (λ k. normal_byte n v k) (eqb n v) refl
     where
       by : (v < n → normal n (byte v) ≡ ρ v) → (t : Bool) → eqb n v ≡ t → normal (suc n) (byte v) ≡ ρ v
       by below true e =
@@ -148,26 +148,26 @@ module _ (ρ : ℕ → ℕ) where
           ap₂ ◌⊕◌ (below (let q : n ≡ v → ⊥ = eqb-false n v e in omega arith)) (other n v (eqb-false n v e))
           ∙ xor_zero_r (ρ v)
 
-  value-normal : (n : ℕ) (e : Sum) → T (within n e) → value ρ e ≡ normal n e
-  value-normal n (byte v) t = sym (normal-byte n v (ltb→lt v n t))
-  value-normal n none t = sym (total-none n)
-  value-normal n (plus e f) t =
-      ap₂ ◌⊕◌ (value-normal n e (both_left (within n e) (within n f) t)) (value-normal n f (both_right (within n e) (within n f) t))
-      ∙ sym (total-sum n (λ i. times (coefficient i e) (ρ i)) (λ i. times (coefficient i f) (ρ i)))
-      ∙ total_ext n (λ i k. sym (times-sum (coefficient i e) (coefficient i f) (ρ i)))
-  value-normal n (byX e) t =
-      ap xTimes (value-normal n e t) ∙ sym (total-x n (λ i. times (coefficient i e) (ρ i)))
-      ∙ total_ext n (λ i k. sym (times-x (coefficient i e) (ρ i)))
+  value_normal : (n : ℕ) (e : Sum) → T (within n e) → value ρ e ≡ normal n e
+  value_normal n (byte v) t = sym (normal_byte n v (ltb→lt v n t))
+  value_normal n none t = sym (total_none n)
+  value_normal n (plus e f) t =
+      ap₂ ◌⊕◌ (value_normal n e (both_left (within n e) (within n f) t)) (value_normal n f (both_right (within n e) (within n f) t))
+      ∙ sym (total_sum n (λ i. times (coefficient i e) (ρ i)) (λ i. times (coefficient i f) (ρ i)))
+      ∙ total_ext n (λ i k. sym (times_sum (coefficient i e) (coefficient i f) (ρ i)))
+  value_normal n (by_x e) t =
+      ap x_times (value_normal n e t) ∙ sym (total_x n (λ i. times (coefficient i e) (ρ i)))
+      ∙ total_ext n (λ i k. sym (times_x (coefficient i e) (ρ i)))
 
-  normal-zero : (n : ℕ) (e : Sum) → T (vanishes n e) → normal n e ≡ 0
-  normal-zero zero e t = refl
-  normal-zero (suc n) e t =
-      ap₂ ◌⊕◌ (normal-zero n e (both_left (vanishes n e) (is_zero (coefficient n e)) t))
+  normal_zero : (n : ℕ) (e : Sum) → T (vanishes n e) → normal n e ≡ 0
+  normal_zero zero e t = refl
+  normal_zero (suc n) e t =
+      ap₂ ◌⊕◌ (normal_zero n e (both_left (vanishes n e) (is_zero (coefficient n e)) t))
       (times_zero (coefficient n e) (ρ n) (both_right (vanishes n e) (is_zero (coefficient n e)) t))
 
   -- sums of the first n bytes with the same coefficients are equal
   pub equal : (n : ℕ) (e f : Sum) → T (within n (plus e f) && vanishes n (plus e f)) → value ρ e ≡ value ρ f
   equal n e f t =
-      xor-eq (value ρ e) (value ρ f)
-      (value-normal n (plus e f) (both_left (within n (plus e f)) (vanishes n (plus e f)) t)
-      ∙ normal-zero n (plus e f) (both_right (within n (plus e f)) (vanishes n (plus e f)) t))
+      xor_eq (value ρ e) (value ρ f)
+      (value_normal n (plus e f) (both_left (within n (plus e f)) (vanishes n (plus e f)) t)
+      ∙ normal_zero n (plus e f) (both_right (within n (plus e f)) (vanishes n (plus e f)) t))

@@ -8,8 +8,8 @@ abbrev pub Column : Type 0
 Column = Bytes
 
 -- 5.1.3: a column times the matrix of {02}, {03}, {01}, {01}
-unfoldable pub mixColumn : Column → Column
-mixColumn s =
+unfoldable pub mix_column : Column → Column
+mix_column s =
     let s0 = get_or s 0 0 in
     let s1 = get_or s 1 0 in
     let s2 = get_or s 2 0 in
@@ -21,8 +21,8 @@ mixColumn s =
     ∷ []
 
 -- 5.3.3: a column times the matrix of {0e}, {0b}, {0d}, {09}
-unfoldable pub invMixColumn : Column → Column
-invMixColumn s =
+unfoldable pub inv_mix_column : Column → Column
+inv_mix_column s =
     let s0 = get_or s 0 0 in
     let s1 = get_or s 1 0 in
     let s2 = get_or s 2 0 in

@@ -1,8 +1,8 @@
 // MixColumns (FIPS 197, 5.1.3), and InvMixColumns (5.3.3), which undoes it: each entry is its row of products.
 ghost use Rattle.std.specs.Prelude.{◌≡◌};
 ghost use Rattle.aes_gf.specs.Field.{◌•◌};
-ghost use Rattle.aes_mix_columns.specs.MixColumn.{mixColumn, invMixColumn};
-ghost use Rattle.aes_mix_columns.specs.MixColumns.{mixColumns, invMixColumns};
+ghost use Rattle.aes_mix_columns.specs.MixColumn.{mix_column, inv_mix_column};
+ghost use Rattle.aes_mix_columns.specs.MixColumns.{mix_columns, inv_mix_columns};
 
 use aes_gf::x_times;
 
@@ -21,7 +21,7 @@ fn times_03(a: u8) -> u8
 
 // FIPS 197, 5.1.3: one column.
 fn mix_column(s: [u8; 4]) -> [u8; 4]
-    ensures { result ≡ mixColumn s }
+    ensures { result ≡ mix_column s }
 {
     [
         times_02(s[0]) ^ times_03(s[1]) ^ s[2] ^ s[3],
@@ -33,7 +33,7 @@ fn mix_column(s: [u8; 4]) -> [u8; 4]
 
 // FIPS 197, 5.1.3: MixColumns.
 pub fn mix_columns(s: [[u8; 4]; 4]) -> [[u8; 4]; 4]
-    ensures { result ≡ mixColumns s }
+    ensures { result ≡ mix_columns s }
 {
     [
         mix_column(s[0]),
@@ -82,7 +82,7 @@ fn times_0e(a: u8) -> u8
 
 // FIPS 197, 5.3.3: one column.
 fn inv_mix_column(s: [u8; 4]) -> [u8; 4]
-    ensures { result ≡ invMixColumn s }
+    ensures { result ≡ inv_mix_column s }
 {
     [
         times_0e(s[0]) ^ times_0b(s[1]) ^ times_0d(s[2]) ^ times_09(s[3]),
@@ -94,7 +94,7 @@ fn inv_mix_column(s: [u8; 4]) -> [u8; 4]
 
 // FIPS 197, 5.3.3: InvMixColumns.
 pub fn inv_mix_columns(s: [[u8; 4]; 4]) -> [[u8; 4]; 4]
-    ensures { result ≡ invMixColumns s }
+    ensures { result ≡ inv_mix_columns s }
 {
     [
         inv_mix_column(s[0]),

@@ -7,8 +7,8 @@ use lib.Dec.{eqb, eqb→eq, ltb, ltb→lt}
 use lib.ListN.{get_or}
 use Rattle.octets.specs.Bytes.{Bytes}
 use Rattle.octets.proofs.Table.{at}
-use Rattle.aes_sbox.specs.SBox.{bit, fromBits, affineBit, affine, sBox, invAffineBit, invAffine, invSBox, IsTable}
-use Rattle.aes_inverses.proofs.Inverses.{inverses, inverse-at}
+use Rattle.aes_sbox.specs.SBox.{bit, from_bits, affine_bit, affine, s_box, inv_affine_bit, inv_affine, inv_s_box, IsTable}
+use Rattle.aes_inverses.proofs.Inverses.{inverses, inverse_at}
 
 abbrev table : Bytes
 table =
@@ -29,8 +29,8 @@ table =
     0xe1 ∷ 0xf8 ∷ 0x98 ∷ 0x11 ∷ 0x69 ∷ 0xd9 ∷ 0x8e ∷ 0x94 ∷ 0x9b ∷ 0x1e ∷ 0x87 ∷ 0xe9 ∷ 0xce ∷ 0x55 ∷ 0x28 ∷ 0xdf ∷
     0x8c ∷ 0xa1 ∷ 0x89 ∷ 0x0d ∷ 0xbf ∷ 0xe6 ∷ 0x42 ∷ 0x68 ∷ 0x41 ∷ 0x99 ∷ 0x2d ∷ 0x0f ∷ 0xb0 ∷ 0x54 ∷ 0xbb ∷ 0x16 ∷ []
 
-abbrev invTable : Bytes
-invTable =
+abbrev inv_table : Bytes
+inv_table =
     0x52 ∷ 0x09 ∷ 0x6a ∷ 0xd5 ∷ 0x30 ∷ 0x36 ∷ 0xa5 ∷ 0x38 ∷ 0xbf ∷ 0x40 ∷ 0xa3 ∷ 0x9e ∷ 0x81 ∷ 0xf3 ∷ 0xd7 ∷ 0xfb ∷
     0x7c ∷ 0xe3 ∷ 0x39 ∷ 0x82 ∷ 0x9b ∷ 0x2f ∷ 0xff ∷ 0x87 ∷ 0x34 ∷ 0x8e ∷ 0x43 ∷ 0x44 ∷ 0xc4 ∷ 0xde ∷ 0xe9 ∷ 0xcb ∷
     0x54 ∷ 0x7b ∷ 0x94 ∷ 0x32 ∷ 0xa6 ∷ 0xc2 ∷ 0x23 ∷ 0x3d ∷ 0xee ∷ 0x4c ∷ 0x95 ∷ 0x0b ∷ 0x42 ∷ 0xfa ∷ 0xc3 ∷ 0x4e ∷
@@ -51,28 +51,28 @@ invTable =
 follows : ℕ → ℕ → Bool
 follows b x = eqb x (affine (get_or inverses b 0))
 
-pub sbox-table : IsTable sBox table
-unfolding follows bit fromBits affineBit affine sBox
-sbox-table = record {
-  rule = λ b h. eqb→eq (get_or table b 0) (affine (get_or inverses b 0)) (at follows table tt b h) ∙ ap affine (inverse-at b h);
+pub sbox_table : IsTable s_box table
+unfolding follows bit from_bits affine_bit affine s_box
+sbox_table = record {
+  rule = λ b h. eqb→eq (get_or table b 0) (affine (get_or inverses b 0)) (at follows table tt b h) ∙ ap affine (inverse_at b h);
 }
 
-affine-small : ℕ → ℕ → Bool
-affine-small b x = ltb (invAffine b) 256
+affine_small : ℕ → ℕ → Bool
+affine_small b x = ltb (inv_affine b) 256
 
-invAffine-lt : (b : ℕ) → b < 256 → invAffine b < 256
-unfolding affine-small bit fromBits invAffineBit invAffine
-invAffine-lt b h = ltb→lt (invAffine b) 256 (at affine-small invTable tt b h)
+inv_affine_lt : (b : ℕ) → b < 256 → inv_affine b < 256
+unfolding affine_small bit from_bits inv_affine_bit inv_affine
+inv_affine_lt b h = ltb→lt (inv_affine b) 256 (at affine_small inv_table tt b h)
 
-invFollows : ℕ → ℕ → Bool
-invFollows b x = eqb x (get_or inverses (invAffine b) 0)
+inv_follows : ℕ → ℕ → Bool
+inv_follows b x = eqb x (get_or inverses (inv_affine b) 0)
 
-pub inv-sbox-table : IsTable invSBox invTable
-unfolding invFollows bit fromBits invAffineBit invAffine invSBox
-inv-sbox-table = record {
+pub inv_sbox_table : IsTable inv_s_box inv_table
+unfolding inv_follows bit from_bits inv_affine_bit inv_affine inv_s_box
+inv_sbox_table = record {
   rule = λ b h.
-      eqb→eq (get_or invTable b 0) (get_or inverses (invAffine b) 0) (at invFollows invTable tt b h)
-      ∙ inverse-at (invAffine b) (invAffine-lt b h);
+      eqb→eq (get_or inv_table b 0) (get_or inverses (inv_affine b) 0) (at inv_follows inv_table tt b h)
+      ∙ inverse_at (inv_affine b) (inv_affine_lt b h);
 }
 
 -- ---- one table undoes the other
@@ -80,15 +80,15 @@ inv-sbox-table = record {
 small : ℕ → ℕ → Bool
 small b x = ltb x 256
 
-table-lt : (b : ℕ) → b < 256 → get_or table b 0 < 256
+table_lt : (b : ℕ) → b < 256 → get_or table b 0 < 256
 unfolding small
-table-lt b h = ltb→lt (get_or table b 0) 256 (at small table tt b h)
+table_lt b h = ltb→lt (get_or table b 0) 256 (at small table tt b h)
 
 undone : ℕ → ℕ → Bool
-undone b x = eqb (get_or invTable x 0) b
+undone b x = eqb (get_or inv_table x 0) b
 
-pub invSBox-sBox : (b : ℕ) → b < 256 → invSBox (sBox b) ≡ b
+pub inv_s_box-s_box : (b : ℕ) → b < 256 → inv_s_box (s_box b) ≡ b
 unfolding undone
-invSBox-sBox b h =
-    ap invSBox (sym (sbox-table.rule b h)) ∙ sym (inv-sbox-table.rule (get_or table b 0) (table-lt b h))
-    ∙ eqb→eq (get_or invTable (get_or table b 0) 0) b (at undone table tt b h)
+inv_s_box-s_box b h =
+    ap inv_s_box (sym (sbox_table.rule b h)) ∙ sym (inv_sbox_table.rule (get_or table b 0) (table_lt b h))
+    ∙ eqb→eq (get_or inv_table (get_or table b 0) 0) b (at undone table tt b h)

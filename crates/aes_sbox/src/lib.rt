@@ -4,7 +4,7 @@ mod tables;
 ghost use Rattle.std.specs.Prelude.{◌≡◌, ◌%◌};
 ghost use Rattle.std.specs.Int.Bits.{bit_and};
 ghost use Rattle.std.specs.Int.Count.{ones};
-ghost use Rattle.aes_sbox.specs.SBox.{IsTable, sBox, invSBox, affine};
+ghost use Rattle.aes_sbox.specs.SBox.{IsTable, s_box, inv_s_box, affine};
 ghost use Rattle.aes_inverses.specs.Inverse.{powers, inverse};
 
 use aes_gf::multiply;
@@ -12,14 +12,14 @@ use tables::{INV_SBOX, SBOX};
 
 // The S-box's table. A caller that looks up many bytes takes it once and lends it.
 pub fn sbox() -> [u8; 256]
-    ensures { IsTable sBox result }
+    ensures { IsTable s_box result }
 {
     SBOX
 }
 
 // The inverse S-box's table.
 pub fn inv_sbox() -> [u8; 256]
-    ensures { IsTable invSBox result }
+    ensures { IsTable inv_s_box result }
 {
     INV_SBOX
 }
@@ -62,7 +62,7 @@ fn affine(b: u8) -> u8
 
 // The S-box by its rule, with no table.
 pub fn sbox_rule(b: u8) -> u8
-    ensures { result ≡ sBox b }
+    ensures { result ≡ s_box b }
 {
     affine(inverse(b))
 }

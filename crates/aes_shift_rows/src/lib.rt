@@ -1,10 +1,10 @@
 // ShiftRows (FIPS 197, 5.1.2), and InvShiftRows (5.3.1), which undoes it.
 ghost use Rattle.std.specs.Prelude.{◌≡◌};
-ghost use Rattle.aes_shift_rows.specs.ShiftRows.{shiftRows, invShiftRows};
+ghost use Rattle.aes_shift_rows.specs.ShiftRows.{shift_rows, inv_shift_rows};
 
 // FIPS 197, 5.1.2: ShiftRows.
 pub fn shift_rows(s: [[u8; 4]; 4]) -> [[u8; 4]; 4]
-    ensures { result ≡ shiftRows s }
+    ensures { result ≡ shift_rows s }
 {
     let a = s[0];
     let b = s[1];
@@ -20,7 +20,7 @@ pub fn shift_rows(s: [[u8; 4]; 4]) -> [[u8; 4]; 4]
 
 // FIPS 197, 5.3.1: InvShiftRows.
 pub fn inv_shift_rows(s: [[u8; 4]; 4]) -> [[u8; 4]; 4]
-    ensures { result ≡ invShiftRows s }
+    ensures { result ≡ inv_shift_rows s }
 {
     let a = s[0];
     let b = s[1];

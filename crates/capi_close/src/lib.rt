@@ -1,7 +1,7 @@
 // Closing a session, for programs in C (c/include/pivsm.h), on its bytes.
 ghost use Rattle.std.specs.Prelude.{◌≡◌};
 ghost use Rattle.octets.specs.Bytes.{IsBytes};
-ghost use Rattle.capi_close.specs.Call.{given, left, pivsmClose};
+ghost use Rattle.capi_close.specs.Call.{given, left, pivsm_close};
 
 use capi_session::{replace_session, session_in};
 use session_bytes::Decoding;
@@ -10,7 +10,7 @@ use session_bytes::Decoding;
 #[unsafe(no_mangle)]
 pub extern "C" fn pivsm_close(session: &mut [u8], len: &mut usize) -> u32
     ensures call { left result session.new len.new
-        ≡ pivsmClose (given session.old len.old) }
+        ≡ pivsm_close (given session.old len.old) }
     ensures bytes { IsBytes session.old }
 {
     let decoded = session_in(session, *len);

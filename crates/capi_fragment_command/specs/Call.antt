@@ -3,8 +3,8 @@ use Rattle.std.specs.Prelude.{ℕ, length}
 use Rattle.octets.specs.Bytes.{Bytes}
 use Rattle.message_answer.specs.Answer.{Answer, buffer}
 use Rattle.chain_command.specs.Apdu.{Header, header}
-use Rattle.chain_command.specs.Fragment.{fragmentCommand, fragmentAnswer}
-use Rattle.capi_values.specs.ChainingValues.{fragmentValues}
+use Rattle.chain_command.specs.Fragment.{fragment_command, fragment_answer}
+use Rattle.capi_values.specs.ChainingValues.{fragment_values}
 
 -- what the call is given: the command's header, the field, the fragment's size and number, and the caller's buffer
 pub record Given : Type 0 where
@@ -28,12 +28,12 @@ abbrev pub left : ℕ → Bytes → ℕ → Left
 left number apdu written = record { number = number; apdu = apdu; written = written }
 
 abbrev pub fragmented : Given → Answer Bytes
-fragmented g = fragmentCommand g.header g.field g.size g.number (length g.apdu)
+fragmented g = fragment_command g.header g.field g.size g.number (length g.apdu)
 
 abbrev pub leaves : Bytes → Answer Bytes → Left
 leaves before a =
-    let values = fragmentValues (fragmentAnswer a) in
+    let values = fragment_values (fragment_answer a) in
     left values.number (buffer (λ bytes. bytes) before a) values.len
 
-abbrev pub pivsmFragmentCommand : Given → Left
-pivsmFragmentCommand g = leaves g.apdu (fragmented g)
+abbrev pub pivsm_fragment_command : Given → Left
+pivsm_fragment_command g = leaves g.apdu (fragmented g)

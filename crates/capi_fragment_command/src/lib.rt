@@ -1,6 +1,6 @@
 // Fragmenting a command, for programs in C (c/include/pivsm.h).
 ghost use Rattle.std.specs.Prelude.{◌≡◌};
-ghost use Rattle.capi_fragment_command.specs.Call.{given, left, pivsmFragmentCommand};
+ghost use Rattle.capi_fragment_command.specs.Call.{given, left, pivsm_fragment_command};
 
 use capi_values::fragment_values;
 use chain_fragment_command::fragment_command;
@@ -18,7 +18,7 @@ pub extern "C" fn pivsm_fragment_command(
     written: &mut usize,
 ) -> u32
     ensures { left result apdu.new written.new
-        ≡ pivsmFragmentCommand (given ins p1 p2 field.now size number apdu.old) }
+        ≡ pivsm_fragment_command (given ins p1 p2 field.now size number apdu.old) }
 {
     let answer = fragment_command(ins, p1, p2, field, size, number, apdu);
     let values = fragment_values(answer);

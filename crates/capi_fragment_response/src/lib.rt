@@ -1,6 +1,6 @@
 // Fragmenting a response, for programs in C (c/include/pivsm.h).
 ghost use Rattle.std.specs.Prelude.{◌≡◌};
-ghost use Rattle.capi_fragment_response.specs.Call.{given, left, pivsmFragmentResponse};
+ghost use Rattle.capi_fragment_response.specs.Call.{given, left, pivsm_fragment_response};
 
 use capi_values::response_fragment_values;
 use chain_fragment_response::fragment_response;
@@ -17,7 +17,7 @@ pub extern "C" fn pivsm_fragment_response(
     next: &mut usize,
 ) -> u32
     ensures { left result apdu.new written.new next.new
-        ≡ pivsmFragmentResponse (given sw field.now at le apdu.old) }
+        ≡ pivsm_fragment_response (given sw field.now at le apdu.old) }
 {
     let sw1 = (sw / 256) as u8;
     let sw2 = (sw % 256) as u8;

@@ -1,6 +1,6 @@
 // GET RESPONSE, for programs in C (c/include/pivsm.h).
 ghost use Rattle.std.specs.Prelude.{◌≡◌};
-ghost use Rattle.capi_get_response.specs.Call.{given, left, pivsmGetResponse};
+ghost use Rattle.capi_get_response.specs.Call.{given, left, pivsm_get_response};
 
 use chain_reassemble_response::get_response;
 use octets::put_bytes;
@@ -9,7 +9,7 @@ use octets::put_bytes;
 #[unsafe(no_mangle)]
 pub extern "C" fn pivsm_get_response(le: u8, apdu: &mut [u8], written: &mut usize) -> u32
     ensures { left result apdu.new written.new
-        ≡ pivsmGetResponse (given le apdu.old) }
+        ≡ pivsm_get_response (given le apdu.old) }
 {
     *written = 5;
     if apdu.len() < 5 {

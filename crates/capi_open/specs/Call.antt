@@ -12,7 +12,7 @@ use Rattle.session.specs.declared.Opened.{Opened}
 use Rattle.session.specs.declared.Opening.{Opening}
 use Rattle.session.specs.declared.Opening.TheVariants.{Opened as Done, Refused}
 use Rattle.session_rules.specs.Valid.{valid}
-use Rattle.session_bytes.specs.Saved.{sessionSize, encode}
+use Rattle.session_bytes.specs.Saved.{session_size, encode}
 use Rattle.message_answer.specs.Answer.{Answer, refused, gave, require◌else◌⨾◌, buffer}
 use Rattle.capi_values.specs.Values.{number_of}
 
@@ -40,29 +40,29 @@ OpenedValid o = o.answer ≡ Done → valid o.session ≡ true
 
 -- the session's bytes: 6 where there is no room for them
 unfoldable pub saved : Session → ℕ → Answer Bytes
-saved s room = require leb sessionSize room else BufferTooSmall sessionSize ⨾ gave (encode s)
+saved s room = require leb session_size room else BufferTooSmall session_size ⨾ gave (encode s)
 
 -- of a session that was opened; 11 and 12 come first
-unfoldable pub openedAs : Opening → Session → ℕ → Answer Bytes
-openedAs Done s room = saved s room
-openedAs (Refused r) s room = refused r
+unfoldable pub opened_as : Opening → Session → ℕ → Answer Bytes
+opened_as Done s room = saved s room
+opened_as (Refused r) s room = refused r
 
 -- the length of the session, the length needed, or 0
-abbrev pub openedLen : Answer Bytes → ℕ
-openedLen (refused r) = size r
-openedLen (gave bytes) = sessionSize
+abbrev pub opened_len : Answer Bytes → ℕ
+opened_len (refused r) = size r
+opened_len (gave bytes) = session_size
 
 abbrev pub leaves : Bytes → Answer Bytes → Left
-leaves before a = left (number_of a) (buffer (λ bytes. bytes) before a) (openedLen a)
+leaves before a = left (number_of a) (buffer (λ bytes. bytes) before a) (opened_len a)
 
-abbrev pub leavesOpened : Bytes → Opened → Left
-leavesOpened before o = leaves before (openedAs o.answer o.session (length before))
+abbrev pub leaves_opened : Bytes → Opened → Left
+leaves_opened before o = leaves before (opened_as o.answer o.session (length before))
 
-abbrev pub pivsmOpen : Side → Given → Left
-pivsmOpen side g = leavesOpened g.session (opening side g.suite g.keys)
+abbrev pub pivsm_open : Side → Given → Left
+pivsm_open side g = leaves_opened g.session (opening side g.suite g.keys)
 
-abbrev pub pivsmOpenHost : Given → Left
-pivsmOpenHost = pivsmOpen Host
+abbrev pub pivsm_open_host : Given → Left
+pivsm_open_host = pivsm_open Host
 
-abbrev pub pivsmOpenCard : Given → Left
-pivsmOpenCard = pivsmOpen Card
+abbrev pub pivsm_open_card : Given → Left
+pivsm_open_card = pivsm_open Card

@@ -2,8 +2,8 @@
 ghost use Rattle.std.specs.Prelude.{true, ◌≡◌, length};
 ghost use Rattle.session_suite.specs.StoredKeys.{KeysOfBytes, keys};
 ghost use Rattle.session_rules.specs.Valid.{valid};
-ghost use Rattle.capi_values.specs.Values.{refusalValues};
-ghost use Rattle.capi_open.specs.Call.{given, left, OpenedValid, saved, leaves, leavesOpened, pivsmOpenHost, pivsmOpenCard};
+ghost use Rattle.capi_values.specs.Values.{refusal_values};
+ghost use Rattle.capi_open.specs.Call.{given, left, OpenedValid, saved, leaves, leaves_opened, pivsm_open_host, pivsm_open_card};
 
 use capi_values::refusal_values;
 use refusal::Refusal;
@@ -21,7 +21,7 @@ pub extern "C" fn pivsm_open_host(
     len: &mut usize,
 ) -> u32
     ensures call { left result session.new len.new
-        ≡ pivsmOpenHost (given suite enc.now mac.now rmac.now
+        ≡ pivsm_open_host (given suite enc.now mac.now rmac.now
         session.old) }
     ensures bytes { KeysOfBytes (keys enc.now mac.now rmac.now) }
 {
@@ -39,7 +39,7 @@ pub extern "C" fn pivsm_open_card(
     len: &mut usize,
 ) -> u32
     ensures call { left result session.new len.new
-        ≡ pivsmOpenCard (given suite enc.now mac.now rmac.now
+        ≡ pivsm_open_card (given suite enc.now mac.now rmac.now
         session.old) }
     ensures bytes { KeysOfBytes (keys enc.now mac.now rmac.now) }
 {
@@ -50,7 +50,7 @@ pub extern "C" fn pivsm_open_card(
 fn put_opened(opened: Opened, session: &mut [u8], len: &mut usize) -> u32
     requires { OpenedValid opened }
     ensures { left result session.new len.new
-        ≡ leavesOpened session.old opened }
+        ≡ leaves_opened session.old opened }
 {
     let answer = opened.answer;
     let fresh = opened.session;
@@ -78,8 +78,8 @@ fn put_saved(fresh: Session, session: &mut [u8], len: &mut usize) -> u32
 
 // Gives the numbers of a refusal.
 fn put_refused(refusal: Refusal, len: &mut usize) -> u32
-    ensures number { result ≡ (refusalValues refusal).number }
-    ensures len { len.new ≡ (refusalValues refusal).len }
+    ensures number { result ≡ (refusal_values refusal).number }
+    ensures len { len.new ≡ (refusal_values refusal).len }
 {
     let values = refusal_values(refusal);
     *len = values.len;

@@ -7,24 +7,24 @@ use borrow.Author.Tests.{eqb-true, leb-true}
 use lib.Dec.{eqb, leb}
 use Rattle.octets.specs.Bytes.{Bytes}
 use Rattle.octets.specs.Choice.{if◌then◌else◌}
-use Rattle.chain_command.specs.Reassembly.{possible, reassembleCommand}
+use Rattle.chain_command.specs.Reassembly.{possible, reassemble_command}
 use Rattle.chain_command.specs.declared.CommandChain.{CommandChain}
 use Rattle.chain_command.proofs.Theorems.{leaves}
-use Rattle.capi_reassemble_command.specs.ChainNumbers.{chainNumber, chainOf}
+use Rattle.capi_reassemble_command.specs.ChainNumbers.{chain_number, chain_of}
 
-possible-short : (c : CommandChain) → possible c ≡ true → c.len ≤ 2066
+possible_short : (c : CommandChain) → possible c ≡ true → c.len ≤ 2066
 unfolding possible
-possible-short c = go (eqb c.len 0) refl
+possible_short c = go (eqb c.len 0) refl
   where
     go : (t : Bool) → eqb c.len 0 ≡ t → (if t then eqb c.ins 0 && eqb c.p1 0 && eqb c.p2 0 else leb c.len 2066) ≡ true → c.len ≤ 2066
     go true e h = omega (arith, eqb-true c.len 0 e)
     go false e h = leb-true c.len 2066 h
 
-pub left-short : (c : CommandChain) (apdu : Bytes) (room : ℕ) → (reassembleCommand c apdu room).chain.len ≤ 2066
-left-short c apdu room = possible-short (reassembleCommand c apdu room).chain (leaves c apdu room)
+pub left_short : (c : CommandChain) (apdu : Bytes) (room : ℕ) → (reassemble_command c apdu room).chain.len ≤ 2066
+left_short c apdu room = possible_short (reassemble_command c apdu room).chain (leaves c apdu room)
 
-pub chain_back : (c : CommandChain) → c.ins < 256 → c.p1 < 256 → c.p2 < 256 → chainOf (chainNumber c) ≡ c
-unfolding chainOf chainNumber
+pub chain_back : (c : CommandChain) → c.ins < 256 → c.p1 < 256 → c.p2 < 256 → chain_of (chain_number c) ≡ c
+unfolding chain_of chain_number
 chain_back c i p q = λ k. record { len = len k; ins = ins k; p1 = p1 k; p2 = p2 k }
   where
     n : ℕ

@@ -1,11 +1,11 @@
 -- pivsm_reassemble_command of c/include/pivsm.h: the data of one APDU, put behind what stands in the caller's buffer.
 use Rattle.std.specs.Prelude.{ℕ, length}
 use Rattle.octets.specs.Bytes.{Bytes}
-use Rattle.chain_command.specs.Reassembly.{reassembleCommand, reassemblyBuffer}
+use Rattle.chain_command.specs.Reassembly.{reassemble_command, reassembly_buffer}
 use Rattle.chain_command.specs.declared.CommandChain.{CommandChain}
 use Rattle.chain_command.specs.declared.Reassembly.{Reassembly}
-use Rattle.capi_values.specs.ChainingValues.{reassemblyValues}
-use Rattle.capi_reassemble_command.specs.ChainNumbers.{chainNumber, chainOf}
+use Rattle.capi_values.specs.ChainingValues.{reassembly_values}
+use Rattle.capi_reassemble_command.specs.ChainNumbers.{chain_number, chain_of}
 
 -- what the call is given: the chain's number, the APDU, and the caller's buffer
 pub record Given : Type 0 where
@@ -33,16 +33,16 @@ left number chain field written sw ins p1 p2 =
 
 -- with the chain that a number stands for
 abbrev pub reassembled : CommandChain → Given → Reassembly
-reassembled c g = reassembleCommand c g.apdu (length g.field)
+reassembled c g = reassemble_command c g.apdu (length g.field)
 
 abbrev pub leaves : Reassembly → Bytes → Left
 leaves r field =
-    let values = reassemblyValues r.answer in
-    left values.number (chainNumber r.chain) field values.len
+    let values = reassembly_values r.answer in
+    left values.number (chain_number r.chain) field values.len
     values.status values.ins values.p1 values.p2
 
-abbrev pub leavesWith : CommandChain → Given → Left
-leavesWith c g = leaves (reassembled c g) (reassemblyBuffer c g.apdu g.field)
+abbrev pub leaves_with : CommandChain → Given → Left
+leaves_with c g = leaves (reassembled c g) (reassembly_buffer c g.apdu g.field)
 
-abbrev pub pivsmReassembleCommand : Given → Left
-pivsmReassembleCommand g = leavesWith (chainOf g.chain) g
+abbrev pub pivsm_reassemble_command : Given → Left
+pivsm_reassemble_command g = leaves_with (chain_of g.chain) g

@@ -1,9 +1,9 @@
 // Reassembling a command, for programs in C (c/include/pivsm.h). A chain of fragments is one number there.
 ghost use Rattle.std.specs.Prelude.{◌≡◌, ◌≤◌};
-ghost use Rattle.message_answer.specs.Message.{maxCommandField};
-ghost use Rattle.capi_reassemble_command.specs.ChainNumbers.{chainNumber, chainOf};
+ghost use Rattle.message_answer.specs.Message.{max_command_field};
+ghost use Rattle.capi_reassemble_command.specs.ChainNumbers.{chain_number, chain_of};
 ghost use Rattle.octets.specs.Bytes.{IsBytes};
-ghost use Rattle.capi_reassemble_command.specs.Call.{given, left, pivsmReassembleCommand};
+ghost use Rattle.capi_reassemble_command.specs.Call.{given, left, pivsm_reassemble_command};
 
 use capi_values::reassembly_values;
 use chain_command::CommandChain;
@@ -23,7 +23,7 @@ pub extern "C" fn pivsm_reassemble_command(
 ) -> u32
     ensures call { left result chain.new field.new written.new
         sw.new ins.new p1.new p2.new
-        ≡ pivsmReassembleCommand (given chain.old apdu.now field.old) }
+        ≡ pivsm_reassemble_command (given chain.old apdu.now field.old) }
     ensures bytes { IsBytes apdu.now }
 {
     let held = chain_of(*chain);
@@ -42,7 +42,7 @@ pub extern "C" fn pivsm_reassemble_command(
 
 // The chain that a number stands for.
 fn chain_of(n: u64) -> CommandChain
-    ensures { result ≡ chainOf n }
+    ensures { result ≡ chain_of n }
 {
     CommandChain {
         len: (n / 16777216) as usize,
@@ -60,8 +60,8 @@ fn wide(b: u8) -> u64
 
 // The number of a chain.
 fn chain_number(chain: CommandChain) -> u64
-    requires { chain.len ≤ maxCommandField }
-    ensures { result ≡ chainNumber chain }
+    requires { chain.len ≤ max_command_field }
+    ensures { result ≡ chain_number chain }
 {
     let len = chain.len as u64;
     len * 16777216 + wide(chain.ins) * 65536 + wide(chain.p1) * 256 + wide(chain.p2)

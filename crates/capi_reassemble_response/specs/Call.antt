@@ -2,9 +2,9 @@
 -- A chain is one number for a program in C, the length reassembled; 0 is the empty chain.
 use Rattle.std.specs.Prelude.{ℕ, length}
 use Rattle.octets.specs.Bytes.{Bytes}
-use Rattle.chain_response.specs.Reassembly.{chain, reassembleResponse, reassemblyBuffer}
+use Rattle.chain_response.specs.Reassembly.{chain, reassemble_response, reassembly_buffer}
 use Rattle.chain_response.specs.declared.ResponseReassembly.{ResponseReassembly}
-use Rattle.capi_values.specs.ChainingValues.{responseReassemblyValues}
+use Rattle.capi_values.specs.ChainingValues.{response_reassembly_values}
 
 -- what the call is given: the chain's number, the fragment with its status word, and the caller's buffer
 pub record Given : Type 0 where
@@ -28,12 +28,12 @@ left number chain field written sw =
     record { number = number; chain = chain; field = field; written = written; sw = sw }
 
 abbrev pub reassembled : Given → ResponseReassembly
-reassembled g = reassembleResponse (chain g.chain) g.apdu (length g.field)
+reassembled g = reassemble_response (chain g.chain) g.apdu (length g.field)
 
 abbrev pub leaves : ResponseReassembly → Bytes → Left
 leaves r field =
-    let values = responseReassemblyValues r.answer in
+    let values = response_reassembly_values r.answer in
     left values.number r.chain.len field values.len values.status
 
-abbrev pub pivsmReassembleResponse : Given → Left
-pivsmReassembleResponse g = leaves (reassembled g) (reassemblyBuffer (chain g.chain) g.apdu g.field)
+abbrev pub pivsm_reassemble_response : Given → Left
+pivsm_reassemble_response g = leaves (reassembled g) (reassembly_buffer (chain g.chain) g.apdu g.field)

@@ -1,7 +1,7 @@
 // Reassembling a response, for programs in C (c/include/pivsm.h).
 ghost use Rattle.std.specs.Prelude.{◌≡◌};
 ghost use Rattle.octets.specs.Bytes.{IsBytes};
-ghost use Rattle.capi_reassemble_response.specs.Call.{given, left, pivsmReassembleResponse};
+ghost use Rattle.capi_reassemble_response.specs.Call.{given, left, pivsm_reassemble_response};
 
 use capi_values::response_reassembly_values;
 use chain_reassemble_response::reassemble_response;
@@ -18,7 +18,7 @@ pub extern "C" fn pivsm_reassemble_response(
 ) -> u32
     ensures call { left result chain.new field.new written.new
         sw.new
-        ≡ pivsmReassembleResponse (given chain.old apdu.now field.old) }
+        ≡ pivsm_reassemble_response (given chain.old apdu.now field.old) }
     ensures bytes { IsBytes apdu.now }
 {
     let held = ResponseChain {

@@ -14,17 +14,17 @@ use Rattle.refusal.specs.Refusal.{number}
 use Rattle.refusal.specs.declared.Refusal.{Refusal}
 use Rattle.session.specs.declared.Session.{Session}
 use Rattle.session_rules.specs.Valid.{valid}
-use Rattle.session_bytes.specs.Saved.{sessionSize, encode, decode, unreadable}
+use Rattle.session_bytes.specs.Saved.{session_size, encode, decode, unreadable}
 use Rattle.session_bytes.specs.declared.Decoded.{Decoded}
 use Rattle.session_bytes.specs.declared.Decoding.TheVariants.{Decoded as Done, Refused}
-use Rattle.session_bytes.proofs.EncodeDecode.{decoded-read, encode-decode}
+use Rattle.session_bytes.proofs.EncodeDecode.{decoded_read, encode_decode}
 use Rattle.message_answer.specs.Outcome as any
 use Rattle.message_answer.specs.Outcome.{closes}
 use Rattle.message_answer.specs.Answer.{Answer, refused, gave, Outcome, Out, concluded, buffer}
 use Rattle.capi_values.specs.Values.{number_of}
 use Rattle.capi_values.specs.declared.Values.{Values}
-use Rattle.capi_session.specs.SessionBytes.{Served, servedBy, Held, heldIn, sessionIn, put_in, onSession, changes, replaced}
-use Rattle.octets.proofs.ByteStrings.{bytes-taken}
+use Rattle.capi_session.specs.SessionBytes.{Served, served_by, Held, held_in, session_in, put_in, on_session, changes, replaced}
+use Rattle.octets.proofs.ByteStrings.{bytes_taken}
 
 -- ---- a buffer of the session's own
 
@@ -33,47 +33,47 @@ never z = let o : ⊥ = omega arith in absurd o
 
 -- what was read stands at the start of the buffer, and is as long as it was said to be
 pub record ReadFrom (h : Held) : Type 0 where
-  pub room : sessionSize ≤ length h.bytes
-  pub long : h.len ≡ sessionSize
-  pub rules : valid (sessionIn h).session ≡ true
-  pub back : IsBytes h.bytes → put_in h (sessionIn h).session ≡ h
+  pub room : session_size ≤ length h.bytes
+  pub long : h.len ≡ session_size
+  pub rules : valid (session_in h).session ≡ true
+  pub back : IsBytes h.bytes → put_in h (session_in h).session ≡ h
 
-pub read-from : (h : Held) → (sessionIn h).answer ≡ Done → ReadFrom h
-unfolding sessionIn put_in over
-read-from h e = let r = go (leb h.len (length h.bytes)) refl e in record { room = r.0; long = r.1; rules = r.2; back = r.3 }
+pub read_from : (h : Held) → (session_in h).answer ≡ Done → ReadFrom h
+unfolding session_in put_in over
+read_from h e = let r = go (leb h.len (length h.bytes)) refl e in record { room = r.0; long = r.1; rules = r.2; back = r.3 }
   where
     xs : Bytes
     xs = h.bytes
 
     go : (t : Bool) → leb h.len (length xs) ≡ t → (if t then decode (take h.len xs) else unreadable).answer ≡ Done
-        → (sessionSize ≤ length xs) × (h.len ≡ sessionSize)
+        → (session_size ≤ length xs) × (h.len ≡ session_size)
         × (valid (if t then decode (take h.len xs) else unreadable).session ≡ true)
-        × (IsBytes xs → heldIn (over xs (encode (if t then decode (take h.len xs) else unreadable).session)) sessionSize ≡ h)
+        × (IsBytes xs → held_in (over xs (encode (if t then decode (take h.len xs) else unreadable).session)) session_size ≡ h)
     go true f e =
         let fits : h.len ≤ length xs = leb-true h.len (length xs) f in
-        let read = decoded-read (take h.len xs) e in
-        let size : length (take h.len xs) ≡ sessionSize = read.first.size in
+        let read = decoded_read (take h.len xs) e in
+        let size : length (take h.len xs) ≡ session_size = read.first.size in
         let l : length (take h.len xs) ≡ h.len = omega (arith, length-take h.len xs) in
-        let long : h.len ≡ sessionSize = sym l ∙ size in (
+        let long : h.len ≡ session_size = sym l ∙ size in (
           omega (arith, fits, long),
           long,
           ap valid read.session ∙ read.keeps,
-          λ bytes i. heldIn ((ap (over xs) (encode-decode (take h.len xs) (bytes-taken h.len xs bytes) e)
+          λ bytes i. held_in ((ap (over xs) (encode_decode (take h.len xs) (bytes_taken h.len xs bytes) e)
               ∙ ap (λ (n : ℕ). take h.len xs ++ drop n xs) l ∙ take-append-drop h.len xs) i) (sym long i),
         )
     go false f e = never (cc)
 
 -- a session that was read keeps the rules
-pub read-valid : (h : Held) (d : Decoded) → d ≡ sessionIn h → d.answer ≡ Done → valid d.session ≡ true
-read-valid h d same told =
-    ap (λ (x : Decoded). valid x.session) same ∙ (read-from h (ap (λ (x : Decoded). x.answer) (sym same) ∙ told)).rules
+pub read_valid : (h : Held) (d : Decoded) → d ≡ session_in h → d.answer ≡ Done → valid d.session ≡ true
+read_valid h d same told =
+    ap (λ (x : Decoded). valid x.session) same ∙ (read_from h (ap (λ (x : Decoded). x.answer) (sym same) ∙ told)).rules
 
 -- ---- where the session stays
 
 -- a result that changes no session is a refusal that keeps it
 pub unchanged : {A : Type 0} (s : Session) (x : Answer (Outcome A)) → changes (number_of (concluded s x).answer) ≡ false
     → (concluded s x).next ≡ s
-unfolding concluded any.concluded any.afterRefusal
+unfolding concluded any.concluded any.after_refusal
 unchanged s (refused r) e = rw (or_right (eqb (number r) 0) (closes r) e)
   where
     or_right : (a b : Bool) → (a || b) ≡ false → b ≡ false
@@ -91,17 +91,17 @@ pub record Gives {H A : Type 0} (values : Answer A → Values) (writes : A → B
   pub output : after ≡ buffer writes before x.answer
 
 module _ {A : Type 0} (values : Answer A → Values) (writes : A → Bytes) (before : Bytes) (h : Held) (call : Session → Out A)
-    (d : Decoded) (same : d ≡ sessionIn h) where
+    (d : Decoded) (same : d ≡ session_in h) where
   -- the call by what was read
-  at-reading : servedBy d.answer (put_in h) h (call d.session) ≡ onSession h call
-  at-reading = ap (λ (x : Decoded). servedBy x.answer (put_in h) h (call x.session)) same
+  at_reading : served_by d.answer (put_in h) h (call d.session) ≡ on_session h call
+  at_reading = ap (λ (x : Decoded). served_by x.answer (put_in h) h (call x.session)) same
 
   -- where no session was read
-  pub was-not-read : (r : Refusal) → d.answer ≡ Refused r → (v : Values) → v ≡ values (refused r)
-      → Gives values writes before (onSession h call) v h before
-  unfolding servedBy buffer
-  was-not-read r told v e =
-      let x = ap (λ a. servedBy a (put_in h) h (call d.session)) (sym told) ∙ at-reading in
+  pub was_not_read : (r : Refusal) → d.answer ≡ Refused r → (v : Values) → v ≡ values (refused r)
+      → Gives values writes before (on_session h call) v h before
+  unfolding served_by buffer
+  was_not_read r told v e =
+      let x = ap (λ a. served_by a (put_in h) h (call d.session)) (sym told) ∙ at_reading in
       record {
         numbers = e ∙ ap (λ (y : Served Held A). values y.answer) x;
         holds = ap (λ (y : Served Held A). y.held) x;
@@ -109,16 +109,16 @@ module _ {A : Type 0} (values : Answer A → Values) (writes : A → Bytes) (bef
       }
 
   module _ (told : d.answer ≡ Done) where
-    pub has_room : sessionSize ≤ length h.bytes
-    has_room = (read-from h (ap (λ (x : Decoded). x.answer) (sym same) ∙ told)).room
+    pub has_room : session_size ≤ length h.bytes
+    has_room = (read_from h (ap (λ (x : Decoded). x.answer) (sym same) ∙ told)).room
 
     -- where one was, and the next is put in its place
     pub was_read : (v : Values) (held : Held) (after : Bytes) → v ≡ values (call d.session).answer
         → held ≡ put_in h (call d.session).next → after ≡ buffer writes before (call d.session).answer
-        → Gives values writes before (onSession h call) v held after
-    unfolding servedBy
+        → Gives values writes before (on_session h call) v held after
+    unfolding served_by
     was_read v held after ev eh eb =
-        let x = ap (λ a. servedBy a (put_in h) h (call d.session)) (sym told) ∙ at-reading in
+        let x = ap (λ a. served_by a (put_in h) h (call d.session)) (sym told) ∙ at_reading in
         record {
           numbers = ev ∙ ap (λ (y : Served Held A). values y.answer) x;
           holds = eh ∙ ap (λ (y : Served Held A). y.held) x;
@@ -126,25 +126,25 @@ module _ {A : Type 0} (values : Answer A → Values) (writes : A → Bytes) (bef
         }
 
     -- where one was, and it is replaced where the result changes it: a refusal that keeps the session leaves the bytes that were read
-    pub was-replaced : IsBytes h.bytes → (stages : Answer (Outcome A)) → call d.session ≡ concluded d.session stages
+    pub was_replaced : IsBytes h.bytes → (stages : Answer (Outcome A)) → call d.session ≡ concluded d.session stages
         → ((a : Answer A) → (values a).number ≡ number_of a) → (v : Values) (next : Session) (held : Held) (after : Bytes)
         → v ≡ values (call d.session).answer → next ≡ (call d.session).next → held ≡ replaced v.number next h
-        → after ≡ buffer writes before (call d.session).answer → Gives values writes before (onSession h call) v held after
+        → after ≡ buffer writes before (call d.session).answer → Gives values writes before (on_session h call) v held after
     unfolding replaced
-    was-replaced bytes stages is numbered v next held after ev en eh eb =
+    was_replaced bytes stages is numbered v next held after ev en eh eb =
         was_read v held after ev (eh ∙ go (changes v.number) refl ∙ ap (put_in h) en) eb
       where
         read : ReadFrom h
-        read = read-from h (ap (λ (x : Decoded). x.answer) (sym same) ∙ told)
+        read = read_from h (ap (λ (x : Decoded). x.answer) (sym same) ∙ told)
 
         number_is : v.number ≡ number_of (concluded d.session stages).answer
         number_is = ap (λ (x : Values). x.number) ev ∙ numbered (call d.session).answer ∙ ap (λ (o : Out A). number_of o.answer) is
 
-        next-is : next ≡ (concluded d.session stages).next
-        next-is = en ∙ ap (λ (o : Out A). o.next) is
+        next_is : next ≡ (concluded d.session stages).next
+        next_is = en ∙ ap (λ (o : Out A). o.next) is
 
         go : (t : Bool) → changes v.number ≡ t → (if t then put_in h next else h) ≡ put_in h next
         go true f = refl
         go false f =
-            sym (ap (put_in h) (next-is ∙ unchanged d.session stages (ap changes (sym number_is) ∙ f)
+            sym (ap (put_in h) (next_is ∙ unchanged d.session stages (ap changes (sym number_is) ∙ f)
             ∙ ap (λ (x : Decoded). x.session) same) ∙ read.back bytes)

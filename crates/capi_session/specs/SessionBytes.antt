@@ -7,7 +7,7 @@ use Rattle.octets.specs.Write.{over}
 use Rattle.refusal.specs.Refusal.{number}
 use Rattle.refusal.specs.declared.Refusal.TheVariants.{BadMac, BadPadding}
 use Rattle.session.specs.declared.Session.{Session}
-use Rattle.session_bytes.specs.Saved.{sessionSize, encode, decode, unreadable}
+use Rattle.session_bytes.specs.Saved.{session_size, encode, decode, unreadable}
 use Rattle.session_bytes.specs.declared.Decoded.{Decoded}
 use Rattle.session_bytes.specs.declared.Decoding.{Decoding}
 use Rattle.session_bytes.specs.declared.Decoding.TheVariants.{Decoded as Done, Refused}
@@ -26,12 +26,12 @@ pub record Served (H A : Type 0) : Type 0 where
   pub held : H
 
 -- the next session is put in the place of the one that was read; all stays as it was where none could be read
-unfoldable pub servedBy : {H A : Type 0} → Decoding → (Session → H) → H → Out A → Served H A
-servedBy Done put held out = record { answer = out.answer; held = put out.next }
-servedBy (Refused r) put held out = record { answer = refused r; held = held }
+unfoldable pub served_by : {H A : Type 0} → Decoding → (Session → H) → H → Out A → Served H A
+served_by Done put held out = record { answer = out.answer; held = put out.next }
+served_by (Refused r) put held out = record { answer = refused r; held = held }
 
-abbrev pub onHolder : {H A : Type 0} → Holder H → H → (Session → Out A) → Served H A
-onHolder by held call = servedBy (by.read held).answer (by.put held) held (call (by.read held).session)
+abbrev pub on_holder : {H A : Type 0} → Holder H → H → (Session → Out A) → Served H A
+on_holder by held call = served_by (by.read held).answer (by.put held) held (call (by.read held).session)
 
 -- ---- a buffer of the session's own
 
@@ -40,21 +40,21 @@ pub record Held : Type 0 where
   pub bytes : Bytes
   pub len : ℕ
 
-abbrev pub heldIn : Bytes → ℕ → Held
-heldIn bytes len = record { bytes = bytes; len = len }
+abbrev pub held_in : Bytes → ℕ → Held
+held_in bytes len = record { bytes = bytes; len = len }
 
 -- a length beyond the buffer can't be read
-unfoldable pub sessionIn : Held → Decoded
-sessionIn h = if leb h.len (length h.bytes) then decode (take h.len h.bytes) else unreadable
+unfoldable pub session_in : Held → Decoded
+session_in h = if leb h.len (length h.bytes) then decode (take h.len h.bytes) else unreadable
 
 unfoldable pub put_in : Held → Session → Held
-put_in h s = heldIn (over h.bytes (encode s)) sessionSize
+put_in h s = held_in (over h.bytes (encode s)) session_size
 
-abbrev pub ownBuffer : Holder Held
-ownBuffer = record { read = sessionIn; put = put_in }
+abbrev pub own_buffer : Holder Held
+own_buffer = record { read = session_in; put = put_in }
 
-abbrev pub onSession : {A : Type 0} → Held → (Session → Out A) → Served Held A
-onSession held call = onHolder ownBuffer held call
+abbrev pub on_session : {A : Type 0} → Held → (Session → Out A) → Served Held A
+on_session held call = on_holder own_buffer held call
 
 -- ---- where the session changes
 

@@ -1,8 +1,8 @@
 // The session of a call from C: read from the start of a buffer that the caller keeps, and the next one written there where it is another one.
 ghost use Rattle.std.specs.Prelude.{◌≡◌, ◌≤◌, length};
 ghost use Rattle.octets.specs.Bytes.{IsBytes};
-ghost use Rattle.session_bytes.specs.Saved.{sessionSize};
-ghost use Rattle.capi_session.specs.SessionBytes.{heldIn, sessionIn, changes, replaced};
+ghost use Rattle.session_bytes.specs.Saved.{session_size};
+ghost use Rattle.capi_session.specs.SessionBytes.{held_in, session_in, changes, replaced};
 
 use refusal::Refusal;
 use session::Session;
@@ -10,7 +10,7 @@ use session_bytes::{Decoded, decode, put_session, unreadable};
 
 // Reads the session of `len` bytes. A length beyond the buffer is a session that can't be read.
 pub fn session_in(held: &[u8], len: usize) -> Decoded
-    ensures decoded { result ≡ sessionIn (heldIn held.now len) }
+    ensures decoded { result ≡ session_in (held_in held.now len) }
     ensures bytes { IsBytes held.now }
 {
     if len <= held.len() {
@@ -22,9 +22,9 @@ pub fn session_in(held: &[u8], len: usize) -> Decoded
 // Puts the next session and its length in the place of the one that was read. After a refusal that keeps the session nothing is written, not even
 // the same bytes again: they may stand in memory that can't be written, or be read by another thread.
 pub fn replace_session(number: u32, next: Session, held: &mut [u8], len: &mut usize)
-    requires { sessionSize ≤ length held.old }
-    ensures { heldIn held.new len.new
-        ≡ replaced number next (heldIn held.old len.old) }
+    requires { session_size ≤ length held.old }
+    ensures { held_in held.new len.new
+        ≡ replaced number next (held_in held.old len.old) }
 {
     if !changes(number) {
         return;

@@ -3,11 +3,11 @@ use Rattle.std.specs.Prelude.{Bool, ℕ, length}
 use Rattle.octets.specs.Bytes.{Bytes}
 use Rattle.message_answer.specs.Answer.{buffer}
 use Rattle.message_answer.specs.Message.{CommandGiven}
-use Rattle.message_ciphers.specs.Aes.{aesCiphers}
+use Rattle.message_ciphers.specs.Aes.{aes_ciphers}
 use Rattle.message_protocol.specs.Command.{cardUnwraps}
-use Rattle.message_result.specs.Results.{commandAnswer}
-use Rattle.capi_values.specs.Values.{commandValues}
-use Rattle.capi_session.specs.SessionBytes.{Served, Held, heldIn, onSession}
+use Rattle.message_result.specs.Results.{command_answer}
+use Rattle.capi_values.specs.Values.{command_values}
+use Rattle.capi_session.specs.SessionBytes.{Served, Held, held_in, on_session}
 
 -- what the call is given: the session's buffer and length, INS, P1 and P2, the field, and the caller's buffer
 pub record Given : Type 0 where
@@ -20,7 +20,7 @@ pub record Given : Type 0 where
 
 abbrev pub given : Bytes → ℕ → ℕ → ℕ → ℕ → Bytes → Bytes → Given
 given session len ins p1 p2 field payload =
-    record { held = heldIn session len; ins = ins; p1 = p1; p2 = p2; field = field; payload = payload }
+    record { held = held_in session len; ins = ins; p1 = p1; p2 = p2; field = field; payload = payload }
 
 -- what it leaves: the result's number, the session's buffer and length, and the caller's buffer and numbers
 pub record Left : Type 0 where
@@ -32,17 +32,17 @@ pub record Left : Type 0 where
 
 abbrev pub left : ℕ → Bytes → ℕ → Bytes → ℕ → Bool → Left
 left number session len payload written le =
-    record { number = number; held = heldIn session len; payload = payload; written = written; le = le }
+    record { number = number; held = held_in session len; payload = payload; written = written; le = le }
 
 -- the call on the session, and what is held of the session after it
 abbrev pub served : Given → Served Held CommandGiven
 served g =
-    onSession g.held
-    (λ s. cardUnwraps aesCiphers s g.ins g.p1 g.p2 g.field (length g.payload))
+    on_session g.held
+    (λ s. cardUnwraps aes_ciphers s g.ins g.p1 g.p2 g.field (length g.payload))
 
 abbrev pub leaves : Bytes → Served Held CommandGiven → Left
 leaves before x =
-    let values = commandValues (commandAnswer x.answer) in
+    let values = command_values (command_answer x.answer) in
     record {
       number = values.number;
       held = x.held;
@@ -51,5 +51,5 @@ leaves before x =
       le = values.le;
     }
 
-abbrev pub pivsmUnwrapCommand : Given → Left
-pivsmUnwrapCommand g = leaves g.payload (served g)
+abbrev pub pivsm_unwrap_command : Given → Left
+pivsm_unwrap_command g = leaves g.payload (served g)

@@ -1,7 +1,7 @@
 // The card unwraps a command, for programs in C (c/include/pivsm.h), on the bytes of a session.
 ghost use Rattle.std.specs.Prelude.{◌≡◌};
 ghost use Rattle.octets.specs.Bytes.{IsBytes};
-ghost use Rattle.capi_unwrap_command.specs.Call.{given, left, pivsmUnwrapCommand};
+ghost use Rattle.capi_unwrap_command.specs.Call.{given, left, pivsm_unwrap_command};
 
 use capi_session::{replace_session, session_in};
 use capi_values::{command_values, refusal_values};
@@ -23,7 +23,7 @@ pub extern "C" fn pivsm_unwrap_command(
 ) -> u32
     ensures call { left result session.new len.new
         payload.new written.new le.new
-        ≡ pivsmUnwrapCommand (given session.old len.old ins p1 p2
+        ≡ pivsm_unwrap_command (given session.old len.old ins p1 p2
         field.now payload.old) }
     ensures bytes { IsBytes session.old }
 {

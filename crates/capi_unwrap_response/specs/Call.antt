@@ -3,11 +3,11 @@ use Rattle.std.specs.Prelude.{ℕ, length}
 use Rattle.octets.specs.Bytes.{Bytes}
 use Rattle.message_answer.specs.Answer.{buffer}
 use Rattle.message_answer.specs.Message.{StatusWord, Response}
-use Rattle.message_ciphers.specs.Aes.{aesCiphers}
+use Rattle.message_ciphers.specs.Aes.{aes_ciphers}
 use Rattle.message_protocol.specs.Response.{hostUnwraps}
-use Rattle.message_result.specs.Results.{responseAnswer}
-use Rattle.capi_values.specs.Values.{statusOf, responseValues}
-use Rattle.capi_session.specs.SessionBytes.{Served, Held, heldIn, onSession}
+use Rattle.message_result.specs.Results.{response_answer}
+use Rattle.capi_values.specs.Values.{status_of, response_values}
+use Rattle.capi_session.specs.SessionBytes.{Served, Held, held_in, on_session}
 
 -- what the call is given: the session's buffer and length, the status word, the field, and the caller's buffer
 pub record Given : Type 0 where
@@ -19,7 +19,7 @@ pub record Given : Type 0 where
 -- the status word is SW1 * 256 + SW2
 abbrev pub given : Bytes → ℕ → ℕ → Bytes → Bytes → Given
 given session len sw field payload =
-    record { held = heldIn session len; sw = statusOf sw; field = field; payload = payload }
+    record { held = held_in session len; sw = status_of sw; field = field; payload = payload }
 
 -- what it leaves: the result's number, the session's buffer and length, and the caller's buffer and numbers
 pub record Left : Type 0 where
@@ -31,16 +31,16 @@ pub record Left : Type 0 where
 
 abbrev pub left : ℕ → Bytes → ℕ → Bytes → ℕ → ℕ → Left
 left number session len payload written status =
-    record { number = number; held = heldIn session len; payload = payload; written = written; status = status }
+    record { number = number; held = held_in session len; payload = payload; written = written; status = status }
 
 -- the call on the session, and what is held of the session after it
 abbrev pub served : Given → Served Held Response
 served g =
-    onSession g.held (λ s. hostUnwraps aesCiphers s g.sw g.field (length g.payload))
+    on_session g.held (λ s. hostUnwraps aes_ciphers s g.sw g.field (length g.payload))
 
 abbrev pub leaves : Bytes → Served Held Response → Left
 leaves before x =
-    let values = responseValues (responseAnswer x.answer) in
+    let values = response_values (response_answer x.answer) in
     record {
       number = values.number;
       held = x.held;
@@ -49,5 +49,5 @@ leaves before x =
       status = values.status;
     }
 
-abbrev pub pivsmUnwrapResponse : Given → Left
-pivsmUnwrapResponse g = leaves g.payload (served g)
+abbrev pub pivsm_unwrap_response : Given → Left
+pivsm_unwrap_response g = leaves g.payload (served g)

@@ -1,7 +1,7 @@
 // The host unwraps a response, for programs in C (c/include/pivsm.h), on the bytes of a session.
 ghost use Rattle.std.specs.Prelude.{◌≡◌};
 ghost use Rattle.octets.specs.Bytes.{IsBytes};
-ghost use Rattle.capi_unwrap_response.specs.Call.{given, left, pivsmUnwrapResponse};
+ghost use Rattle.capi_unwrap_response.specs.Call.{given, left, pivsm_unwrap_response};
 
 use capi_session::{replace_session, session_in};
 use capi_values::{refusal_values, response_values};
@@ -21,7 +21,7 @@ pub extern "C" fn pivsm_unwrap_response(
 ) -> u32
     ensures call { left result session.new len.new
         payload.new written.new status.new
-        ≡ pivsmUnwrapResponse (given session.old len.old sw
+        ≡ pivsm_unwrap_response (given session.old len.old sw
         field.now payload.old) }
     ensures bytes { IsBytes session.old }
 {

@@ -6,26 +6,26 @@ use Rattle.chain_command.specs.declared.ReassemblyAnswer.TheVariants.{More, Whol
 use Rattle.chain_response.specs.declared.ResponseFragmentAnswer.TheVariants.{Fragment as ResponseFragment}
 use Rattle.chain_response.specs.declared.ResponseReassemblyAnswer.TheVariants.{More as ResponseMore, Whole as ResponseWhole}
 use Rattle.capi_values.specs.Values.{given}
-use Rattle.capi_values.specs.ChainingValues.{fragmentValues, reassemblyValues, responseFragmentValues, responseReassemblyValues}
+use Rattle.capi_values.specs.ChainingValues.{fragment_values, reassembly_values, response_fragment_values, response_reassembly_values}
 
 -- 90 00 to all fragments of a command but the last, which gives the header
-more : reassemblyValues (More 255 0x90 0x00) ≡ given 0 255 0x9000
+more : reassembly_values (More 255 0x90 0x00) ≡ given 0 255 0x9000
 more = refl
 
-whole : reassemblyValues (Whole 257 0xCB 0x3F 0xFE) ≡ record { number = 0; len = 257; status = 0; le = false; ins = 0xCB; p1 = 0x3F; p2 = 0xFE; next = 0 }
+whole : reassembly_values (Whole 257 0xCB 0x3F 0xFE) ≡ record { number = 0; len = 257; status = 0; le = false; ins = 0xCB; p1 = 0x3F; p2 = 0xFE; next = 0 }
 whole = refl
 
 -- 61 and the number to ask for
-announced : responseReassemblyValues (ResponseMore 256 0x93) ≡ given 0 256 0x6193
+announced : response_reassembly_values (ResponseMore 256 0x93) ≡ given 0 256 0x6193
 announced = refl
 
 -- the status word of the last fragment, SW1 first
-whole-response : responseReassemblyValues (ResponseWhole 300 0x62 0x81) ≡ given 0 300 0x6281
-whole-response = refl
+whole_response : response_reassembly_values (ResponseWhole 300 0x62 0x81) ≡ given 0 300 0x6281
+whole_response = refl
 
 -- its length; of a response's also the index where the next one starts
-fragment : fragmentValues (Fragment 261) ≡ given 0 261 0
+fragment : fragment_values (Fragment 261) ≡ given 0 261 0
 fragment = refl
 
-response-fragment : responseFragmentValues (ResponseFragment 258 512) ≡ record { number = 0; len = 258; status = 0; le = false; ins = 0; p1 = 0; p2 = 0; next = 512 }
-response-fragment = refl
+response_fragment : response_fragment_values (ResponseFragment 258 512) ≡ record { number = 0; len = 258; status = 0; le = false; ins = 0; p1 = 0; p2 = 0; next = 512 }
+response_fragment = refl

@@ -3,17 +3,17 @@ use mathlib.Core.Path.{◌≡◌, refl}
 use Rattle.octets.specs.Bytes.{Bytes}
 use Rattle.message_answer.specs.Message.{Response, CommandGiven}
 use Rattle.message_answer.specs.Answer.{Answer, refused, gave}
-use Rattle.message_result.specs.Results.{wrapAnswer, commandAnswer, responseAnswer}
-use Rattle.capi_values.specs.Values.{number_of, wrapValues, commandValues, responseValues}
+use Rattle.message_result.specs.Results.{wrap_answer, command_answer, response_answer}
+use Rattle.capi_values.specs.Values.{number_of, wrap_values, command_values, response_values}
 
-pub wrap-number : (a : Answer Bytes) → (wrapValues (wrapAnswer a)).number ≡ number_of a
-wrap-number (refused r) = refl
-wrap-number (gave f) = refl
+pub wrap_number : (a : Answer Bytes) → (wrap_values (wrap_answer a)).number ≡ number_of a
+wrap_number (refused r) = refl
+wrap_number (gave f) = refl
 
-pub command-number : (a : Answer CommandGiven) → (commandValues (commandAnswer a)).number ≡ number_of a
-command-number (refused r) = refl
-command-number (gave g) = refl
+pub command_number : (a : Answer CommandGiven) → (command_values (command_answer a)).number ≡ number_of a
+command_number (refused r) = refl
+command_number (gave g) = refl
 
-pub response-number : (a : Answer Response) → (responseValues (responseAnswer a)).number ≡ number_of a
-response-number (refused r) = refl
-response-number (gave m) = refl
+pub response_number : (a : Answer Response) → (response_values (response_answer a)).number ≡ number_of a
+response_number (refused r) = refl
+response_number (gave m) = refl

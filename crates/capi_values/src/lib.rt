@@ -1,7 +1,7 @@
 // The number and the values of each call's answer (document 01, "The numbered answers"), as the calls from C give them.
 ghost use Rattle.std.specs.Prelude.{◌≡◌};
-ghost use Rattle.capi_values.specs.Values.{given, refusalValues, wrapValues, commandValues, responseValues};
-ghost use Rattle.capi_values.specs.ChainingValues.{fragmentValues, reassemblyValues, responseFragmentValues, responseReassemblyValues};
+ghost use Rattle.capi_values.specs.Values.{given, refusal_values, wrap_values, command_values, response_values};
+ghost use Rattle.capi_values.specs.ChainingValues.{fragment_values, reassembly_values, response_fragment_values, response_reassembly_values};
 
 use chain_command::{FragmentAnswer, ReassemblyAnswer};
 use chain_response::{ResponseFragmentAnswer, ResponseReassemblyAnswer};
@@ -45,7 +45,7 @@ fn given(number: u32, len: usize, status: u16) -> Values
 }
 
 pub fn refusal_values(refusal: Refusal) -> Values
-    ensures { result ≡ refusalValues refusal }
+    ensures { result ≡ refusal_values refusal }
 {
     let number = refusal.number();
     let size = refusal.size();
@@ -54,7 +54,7 @@ pub fn refusal_values(refusal: Refusal) -> Values
 }
 
 pub fn wrap_values(answer: WrapAnswer) -> Values
-    ensures { result ≡ wrapValues answer }
+    ensures { result ≡ wrap_values answer }
 {
     match answer {
         WrapAnswer::Wrapped(n) => given(0, n, 0),
@@ -63,7 +63,7 @@ pub fn wrap_values(answer: WrapAnswer) -> Values
 }
 
 pub fn command_values(answer: CommandAnswer) -> Values
-    ensures { result ≡ commandValues answer }
+    ensures { result ≡ command_values answer }
 {
     match answer {
         CommandAnswer::Accepted(n, le) => Values {
@@ -81,7 +81,7 @@ pub fn command_values(answer: CommandAnswer) -> Values
 }
 
 pub fn response_values(answer: ResponseAnswer) -> Values
-    ensures { result ≡ responseValues answer }
+    ensures { result ≡ response_values answer }
 {
     match answer {
         ResponseAnswer::Accepted(n, sw1, sw2) => given(0, n, status_word(sw1, sw2)),
@@ -90,7 +90,7 @@ pub fn response_values(answer: ResponseAnswer) -> Values
 }
 
 pub fn fragment_values(answer: FragmentAnswer) -> Values
-    ensures { result ≡ fragmentValues answer }
+    ensures { result ≡ fragment_values answer }
 {
     match answer {
         FragmentAnswer::Fragment(n) => given(0, n, 0),
@@ -99,7 +99,7 @@ pub fn fragment_values(answer: FragmentAnswer) -> Values
 }
 
 pub fn reassembly_values(answer: ReassemblyAnswer) -> Values
-    ensures { result ≡ reassemblyValues answer }
+    ensures { result ≡ reassembly_values answer }
 {
     match answer {
         ReassemblyAnswer::More(n, sw1, sw2) => given(0, n, status_word(sw1, sw2)),
@@ -118,7 +118,7 @@ pub fn reassembly_values(answer: ReassemblyAnswer) -> Values
 }
 
 pub fn response_fragment_values(answer: ResponseFragmentAnswer) -> Values
-    ensures { result ≡ responseFragmentValues answer }
+    ensures { result ≡ response_fragment_values answer }
 {
     match answer {
         ResponseFragmentAnswer::Fragment(n, next) => Values {
@@ -136,7 +136,7 @@ pub fn response_fragment_values(answer: ResponseFragmentAnswer) -> Values
 }
 
 pub fn response_reassembly_values(answer: ResponseReassemblyAnswer) -> Values
-    ensures { result ≡ responseReassemblyValues answer }
+    ensures { result ≡ response_reassembly_values answer }
 {
     match answer {
         ResponseReassemblyAnswer::More(n, le) => given(0, n, status_word(MORE_SW1, le)),

@@ -2,12 +2,12 @@
 use mathlib.Core.Path.{◌≡◌, refl}
 use mathlib.Core.Bool.{true}
 use mathlib.Core.List.{[], ◌∷◌}
-use Rattle.capi_session.specs.SessionBytes.{heldIn}
+use Rattle.capi_session.specs.SessionBytes.{held_in}
 use Rattle.capi_wrap_command.specs.Call.{given}
 
 names : given (0x01 ∷ []) 2 3 4 5 true (0x06 ∷ []) (0x07 ∷ [])
     ≡ record {
-      held = heldIn (0x01 ∷ []) 2;
+      held = held_in (0x01 ∷ []) 2;
       message = record { header = record { ins = 3; p1 = 4; p2 = 5; le = true }; payload = 0x06 ∷ [] };
       field = 0x07 ∷ [];
     }

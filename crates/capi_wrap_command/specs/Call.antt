@@ -3,11 +3,11 @@ use Rattle.std.specs.Prelude.{Bool, ℕ, length}
 use Rattle.octets.specs.Bytes.{Bytes}
 use Rattle.message_answer.specs.Answer.{buffer}
 use Rattle.message_answer.specs.Message.{header, Command}
-use Rattle.message_ciphers.specs.Aes.{aesCiphers}
+use Rattle.message_ciphers.specs.Aes.{aes_ciphers}
 use Rattle.message_protocol.specs.Command.{hostWraps}
-use Rattle.message_result.specs.Results.{wrapAnswer}
-use Rattle.capi_values.specs.Values.{wrapValues}
-use Rattle.capi_session.specs.SessionBytes.{Served, Held, heldIn, onSession}
+use Rattle.message_result.specs.Results.{wrap_answer}
+use Rattle.capi_values.specs.Values.{wrap_values}
+use Rattle.capi_session.specs.SessionBytes.{Served, Held, held_in, on_session}
 
 -- what the call is given: the session's buffer and length, the command with its data, and the caller's buffer
 pub record Given : Type 0 where
@@ -18,7 +18,7 @@ pub record Given : Type 0 where
 abbrev pub given : Bytes → ℕ → ℕ → ℕ → ℕ → Bool → Bytes → Bytes → Given
 given session len ins p1 p2 le payload field =
     let message : Command = record { header = header ins p1 p2 le; payload = payload } in
-    record { held = heldIn session len; message = message; field = field }
+    record { held = held_in session len; message = message; field = field }
 
 -- what it leaves: the result's number, the session's buffer and length, and the caller's buffer and numbers
 pub record Left : Type 0 where
@@ -29,15 +29,15 @@ pub record Left : Type 0 where
 
 abbrev pub left : ℕ → Bytes → ℕ → Bytes → ℕ → Left
 left number session len field written =
-    record { number = number; held = heldIn session len; field = field; written = written }
+    record { number = number; held = held_in session len; field = field; written = written }
 
 -- the call on the session, and what is held of the session after it
 abbrev pub served : Given → Served Held Bytes
-served g = onSession g.held (λ s. hostWraps aesCiphers s g.message (length g.field))
+served g = on_session g.held (λ s. hostWraps aes_ciphers s g.message (length g.field))
 
 abbrev pub leaves : Bytes → Served Held Bytes → Left
 leaves before x =
-    let values = wrapValues (wrapAnswer x.answer) in
+    let values = wrap_values (wrap_answer x.answer) in
     record {
       number = values.number;
       held = x.held;
@@ -45,5 +45,5 @@ leaves before x =
       written = values.len;
     }
 
-abbrev pub pivsmWrapCommand : Given → Left
-pivsmWrapCommand g = leaves g.field (served g)
+abbrev pub pivsm_wrap_command : Given → Left
+pivsm_wrap_command g = leaves g.field (served g)

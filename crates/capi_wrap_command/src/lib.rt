@@ -1,7 +1,7 @@
 // The host wraps a command, for programs in C (c/include/pivsm.h), on the bytes of a session.
 ghost use Rattle.std.specs.Prelude.{◌≡◌};
 ghost use Rattle.octets.specs.Bytes.{IsBytes};
-ghost use Rattle.capi_wrap_command.specs.Call.{given, left, pivsmWrapCommand};
+ghost use Rattle.capi_wrap_command.specs.Call.{given, left, pivsm_wrap_command};
 
 use capi_session::{replace_session, session_in};
 use capi_values::{refusal_values, wrap_values};
@@ -23,7 +23,7 @@ pub extern "C" fn pivsm_wrap_command(
 ) -> u32
     ensures call { left result session.new len.new
         field.new written.new
-        ≡ pivsmWrapCommand (given session.old len.old ins p1 p2 le
+        ≡ pivsm_wrap_command (given session.old len.old ins p1 p2 le
         payload.now field.old) }
     ensures bytes { IsBytes session.old × IsBytes payload.now }
 {

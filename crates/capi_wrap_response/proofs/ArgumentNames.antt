@@ -1,12 +1,12 @@
 -- The arguments of the call by name: each is what stands in its place.
 use mathlib.Core.Path.{◌≡◌, refl}
 use mathlib.Core.List.{[], ◌∷◌}
-use Rattle.capi_session.specs.SessionBytes.{heldIn}
+use Rattle.capi_session.specs.SessionBytes.{held_in}
 use Rattle.capi_wrap_response.specs.Call.{given}
 
 names : given (0x01 ∷ []) 2 0x6A82 (0x06 ∷ []) (0x07 ∷ [])
     ≡ record {
-      held = heldIn (0x01 ∷ []) 2;
+      held = held_in (0x01 ∷ []) 2;
       message = record { header = record { sw1 = 0x6A; sw2 = 0x82 }; payload = 0x06 ∷ [] };
       field = 0x07 ∷ [];
     }

@@ -3,11 +3,11 @@ use Rattle.std.specs.Prelude.{ℕ, length}
 use Rattle.octets.specs.Bytes.{Bytes}
 use Rattle.message_answer.specs.Answer.{buffer}
 use Rattle.message_answer.specs.Message.{Response}
-use Rattle.message_ciphers.specs.Aes.{aesCiphers}
+use Rattle.message_ciphers.specs.Aes.{aes_ciphers}
 use Rattle.message_protocol.specs.Response.{cardWraps}
-use Rattle.message_result.specs.Results.{wrapAnswer}
-use Rattle.capi_values.specs.Values.{statusOf, wrapValues}
-use Rattle.capi_session.specs.SessionBytes.{Served, Held, heldIn, onSession}
+use Rattle.message_result.specs.Results.{wrap_answer}
+use Rattle.capi_values.specs.Values.{status_of, wrap_values}
+use Rattle.capi_session.specs.SessionBytes.{Served, Held, held_in, on_session}
 
 -- what the call is given: the session's buffer and length, the response with its data, and the caller's buffer
 pub record Given : Type 0 where
@@ -18,8 +18,8 @@ pub record Given : Type 0 where
 -- the status word is SW1 * 256 + SW2
 abbrev pub given : Bytes → ℕ → ℕ → Bytes → Bytes → Given
 given session len sw payload field =
-    let message : Response = record { header = statusOf sw; payload = payload } in
-    record { held = heldIn session len; message = message; field = field }
+    let message : Response = record { header = status_of sw; payload = payload } in
+    record { held = held_in session len; message = message; field = field }
 
 -- what it leaves: the result's number, the session's buffer and length, and the caller's buffer and numbers
 pub record Left : Type 0 where
@@ -30,15 +30,15 @@ pub record Left : Type 0 where
 
 abbrev pub left : ℕ → Bytes → ℕ → Bytes → ℕ → Left
 left number session len field written =
-    record { number = number; held = heldIn session len; field = field; written = written }
+    record { number = number; held = held_in session len; field = field; written = written }
 
 -- the call on the session, and what is held of the session after it
 abbrev pub served : Given → Served Held Bytes
-served g = onSession g.held (λ s. cardWraps aesCiphers s g.message (length g.field))
+served g = on_session g.held (λ s. cardWraps aes_ciphers s g.message (length g.field))
 
 abbrev pub leaves : Bytes → Served Held Bytes → Left
 leaves before x =
-    let values = wrapValues (wrapAnswer x.answer) in
+    let values = wrap_values (wrap_answer x.answer) in
     record {
       number = values.number;
       held = x.held;
@@ -46,5 +46,5 @@ leaves before x =
       written = values.len;
     }
 
-abbrev pub pivsmWrapResponse : Given → Left
-pivsmWrapResponse g = leaves g.field (served g)
+abbrev pub pivsm_wrap_response : Given → Left
+pivsm_wrap_response g = leaves g.field (served g)

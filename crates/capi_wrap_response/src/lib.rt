@@ -1,7 +1,7 @@
 // The card wraps a response, for programs in C (c/include/pivsm.h), on the bytes of a session.
 ghost use Rattle.std.specs.Prelude.{◌≡◌};
 ghost use Rattle.octets.specs.Bytes.{IsBytes};
-ghost use Rattle.capi_wrap_response.specs.Call.{given, left, pivsmWrapResponse};
+ghost use Rattle.capi_wrap_response.specs.Call.{given, left, pivsm_wrap_response};
 
 use capi_session::{replace_session, session_in};
 use capi_values::{refusal_values, wrap_values};
@@ -20,7 +20,7 @@ pub extern "C" fn pivsm_wrap_response(
 ) -> u32
     ensures call { left result session.new len.new
         field.new written.new
-        ≡ pivsmWrapResponse (given session.old len.old sw
+        ≡ pivsm_wrap_response (given session.old len.old sw
         payload.now field.old) }
     ensures bytes { IsBytes session.old × IsBytes payload.now }
 {

@@ -11,9 +11,9 @@ use Rattle.octets.specs.Write.{put}
 use Rattle.refusal.specs.Refusal.{number, extra}
 use Rattle.refusal.specs.declared.Refusal.TheVariants.{FragmentTooLong}
 use Rattle.message_answer.specs.Answer.{Answer, refused, gave, require◌else◌⨾◌}
-use Rattle.chain_command.specs.Apdu.{Header, header, fragmentApdu, isChained, is_last, wellFormed}
-use Rattle.chain_command.specs.Fragment.{fragmentSize, fragmentCount, fragment, fragmentCommand, fragmentAnswer}
-use Rattle.chain_command.specs.Reassembly.{empty, chain, possible, continues, reassemblyChecks, taken, concluded, reassembleCommand, written, reassemblyBuffer}
+use Rattle.chain_command.specs.Apdu.{Header, header, fragment_apdu, is_chained, is_last, well_formed}
+use Rattle.chain_command.specs.Fragment.{fragment_size, fragment_count, fragment, fragment_command, fragment_answer}
+use Rattle.chain_command.specs.Reassembly.{empty, chain, possible, continues, reassembly_checks, taken, concluded, reassemble_command, written, reassembly_buffer}
 use Rattle.chain_command.specs.declared.FragmentAnswer.TheVariants.{Fragment, Refused as NotFragmented}
 use Rattle.chain_command.specs.declared.CommandChain.{CommandChain}
 use Rattle.chain_command.specs.declared.ReassemblyAnswer.{ReassemblyAnswer}
@@ -29,18 +29,18 @@ fragmented (gave apdu) = 0 ∷ length apdu ∷ []
 h : Header
 h = header 0xCB 0x3F 0xFF
 
-fragment-answers :
-    fragmented (fragmentCommand h (zeros 2067) 256 99 0)
-    ∷ fragmented (fragmentCommand h (zeros 2067) 255 99 0)
-    ∷ fragmented (fragmentCommand h (zeros 2066) 255 9 0)
-    ∷ fragmented (fragmentCommand h (zeros 2066) 255 8 31)
-    ∷ fragmented (fragmentCommand h (zeros 2066) 255 8 32)
-    ∷ fragmented (fragmentCommand h (zeros 2066) 255 7 259)
-    ∷ fragmented (fragmentCommand h (zeros 2066) 255 7 260)
-    ∷ fragmented (fragmentCommand h (zeros 2066) 0 8 32)
-    ∷ fragmented (fragmentCommand h (zeros 2) 1 2 7)
-    ∷ fragmented (fragmentCommand h (zeros 2) 1 1 7)
-    ∷ fragmented (fragmentCommand h [] 0 0 300)
+fragment_answers :
+    fragmented (fragment_command h (zeros 2067) 256 99 0)
+    ∷ fragmented (fragment_command h (zeros 2067) 255 99 0)
+    ∷ fragmented (fragment_command h (zeros 2066) 255 9 0)
+    ∷ fragmented (fragment_command h (zeros 2066) 255 8 31)
+    ∷ fragmented (fragment_command h (zeros 2066) 255 8 32)
+    ∷ fragmented (fragment_command h (zeros 2066) 255 7 259)
+    ∷ fragmented (fragment_command h (zeros 2066) 255 7 260)
+    ∷ fragmented (fragment_command h (zeros 2066) 0 8 32)
+    ∷ fragmented (fragment_command h (zeros 2) 1 2 7)
+    ∷ fragmented (fragment_command h (zeros 2) 1 1 7)
+    ∷ fragmented (fragment_command h [] 0 0 300)
     ∷ []
     ≡ (15 ∷ 0 ∷ [])
     ∷ (4 ∷ 0 ∷ [])
@@ -54,18 +54,18 @@ fragment-answers :
     ∷ (0 ∷ 7 ∷ [])
     ∷ (14 ∷ 0 ∷ [])
     ∷ []
-unfolding fragmented h fragmentCommand require◌else◌⨾◌ fragmentSize fragmentCount fragment fragmentApdu
-fragment-answers = refl
+unfolding fragmented h fragment_command require◌else◌⨾◌ fragment_size fragment_count fragment fragment_apdu
+fragment_answers = refl
 
 -- the bytes of the fragments of three bytes by two, and what a function gives of them
-fragment-bytes :
-    fragmentCommand (header 0x20 0x00 0x80) (7 ∷ 8 ∷ 9 ∷ []) 2 0 7 ∷ fragmentCommand (header 0x20 0x00 0x80) (7 ∷ 8 ∷ 9 ∷ []) 2 1 7 ∷ []
+fragment_bytes :
+    fragment_command (header 0x20 0x00 0x80) (7 ∷ 8 ∷ 9 ∷ []) 2 0 7 ∷ fragment_command (header 0x20 0x00 0x80) (7 ∷ 8 ∷ 9 ∷ []) 2 1 7 ∷ []
     ≡ gave (0x1C ∷ 0x20 ∷ 0x00 ∷ 0x80 ∷ 2 ∷ 7 ∷ 8 ∷ []) ∷ gave (0x0C ∷ 0x20 ∷ 0x00 ∷ 0x80 ∷ 1 ∷ 9 ∷ 0x00 ∷ []) ∷ []
-unfolding fragmentCommand require◌else◌⨾◌ fragmentSize fragmentCount fragment fragmentApdu
-fragment-bytes = refl
+unfolding fragment_command require◌else◌⨾◌ fragment_size fragment_count fragment fragment_apdu
+fragment_bytes = refl
 
-fragment-given : fragmentAnswer (gave (1 ∷ 2 ∷ 3 ∷ [])) ∷ fragmentAnswer (refused FragmentTooLong) ∷ [] ≡ Fragment 3 ∷ NotFragmented FragmentTooLong ∷ []
-fragment-given = refl
+fragment_given : fragment_answer (gave (1 ∷ 2 ∷ 3 ∷ [])) ∷ fragment_answer (refused FragmentTooLong) ∷ [] ≡ Fragment 3 ∷ NotFragmented FragmentTooLong ∷ []
+fragment_given = refl
 
 -- ---- reassembling: the answer's numbers, and the chain
 
@@ -79,10 +79,10 @@ answered r = answer r.answer ++ r.chain.len ∷ r.chain.ins ∷ r.chain.p1 ∷ r
 
 -- an APDU with one byte of data: more follow, and it is the last
 more : ℕ → ℕ → ℕ → Bytes
-more ins p1 p2 = fragmentApdu false (header ins p1 p2) (5 ∷ [])
+more ins p1 p2 = fragment_apdu false (header ins p1 p2) (5 ∷ [])
 
 last : ℕ → ℕ → ℕ → Bytes
-last ins p1 p2 = fragmentApdu true (header ins p1 p2) (5 ∷ [])
+last ins p1 p2 = fragment_apdu true (header ins p1 p2) (5 ∷ [])
 
 -- a chain of n bytes, and one that no fragments lead to
 part : ℕ → CommandChain
@@ -92,16 +92,16 @@ impossible : CommandChain
 impossible = chain (header 0 0 1) 0
 
 -- badly formed: no APDU; no data; a wrong CLA; a byte too few or too many; the last without '00', and with another byte; also where the chain is impossible
-malformed-answers :
-    answered (reassembleCommand (part 4) [] 9)
-    ∷ answered (reassembleCommand (part 4) (0x1C ∷ 1 ∷ 2 ∷ 3 ∷ 0 ∷ []) 9)
-    ∷ answered (reassembleCommand (part 4) (0x0C ∷ 1 ∷ 2 ∷ 3 ∷ 0 ∷ 0 ∷ []) 9)
-    ∷ answered (reassembleCommand (part 4) (0x1D ∷ 1 ∷ 2 ∷ 3 ∷ 1 ∷ 5 ∷ []) 9)
-    ∷ answered (reassembleCommand (part 4) (0x1C ∷ 1 ∷ 2 ∷ 3 ∷ 2 ∷ 5 ∷ []) 9)
-    ∷ answered (reassembleCommand (part 4) (0x1C ∷ 1 ∷ 2 ∷ 3 ∷ 1 ∷ 5 ∷ 0 ∷ []) 9)
-    ∷ answered (reassembleCommand (part 4) (0x0C ∷ 1 ∷ 2 ∷ 3 ∷ 1 ∷ 5 ∷ []) 9)
-    ∷ answered (reassembleCommand (part 4) (0x0C ∷ 1 ∷ 2 ∷ 3 ∷ 1 ∷ 5 ∷ 1 ∷ []) 9)
-    ∷ answered (reassembleCommand impossible [] 0)
+malformed_answers :
+    answered (reassemble_command (part 4) [] 9)
+    ∷ answered (reassemble_command (part 4) (0x1C ∷ 1 ∷ 2 ∷ 3 ∷ 0 ∷ []) 9)
+    ∷ answered (reassemble_command (part 4) (0x0C ∷ 1 ∷ 2 ∷ 3 ∷ 0 ∷ 0 ∷ []) 9)
+    ∷ answered (reassemble_command (part 4) (0x1D ∷ 1 ∷ 2 ∷ 3 ∷ 1 ∷ 5 ∷ []) 9)
+    ∷ answered (reassemble_command (part 4) (0x1C ∷ 1 ∷ 2 ∷ 3 ∷ 2 ∷ 5 ∷ []) 9)
+    ∷ answered (reassemble_command (part 4) (0x1C ∷ 1 ∷ 2 ∷ 3 ∷ 1 ∷ 5 ∷ 0 ∷ []) 9)
+    ∷ answered (reassemble_command (part 4) (0x0C ∷ 1 ∷ 2 ∷ 3 ∷ 1 ∷ 5 ∷ []) 9)
+    ∷ answered (reassemble_command (part 4) (0x0C ∷ 1 ∷ 2 ∷ 3 ∷ 1 ∷ 5 ∷ 1 ∷ []) 9)
+    ∷ answered (reassemble_command impossible [] 0)
     ∷ []
     ≡ (7 ∷ 0 ∷ 0 ∷ 0 ∷ 0 ∷ 0 ∷ [])
     ∷ (7 ∷ 0 ∷ 0 ∷ 0 ∷ 0 ∷ 0 ∷ [])
@@ -113,28 +113,28 @@ malformed-answers :
     ∷ (7 ∷ 0 ∷ 0 ∷ 0 ∷ 0 ∷ 0 ∷ [])
     ∷ (7 ∷ 0 ∷ 0 ∷ 0 ∷ 0 ∷ 0 ∷ [])
     ∷ []
-unfolding answered answer part impossible reassembleCommand concluded reassemblyChecks require◌else◌⨾◌ wellFormed isChained is_last
-malformed-answers = refl
+unfolding answered answer part impossible reassemble_command concluded reassembly_checks require◌else◌⨾◌ well_formed is_chained is_last
+malformed_answers = refl
 
 -- a changed INS, P1 or P2 at the limit; impossible chains; over the limit; without room; taken, chained and last
-chain-answers :
-    answered (reassembleCommand (part 2066) (more 9 2 3) 0)
-    ∷ answered (reassembleCommand (part 2066) (more 1 9 3) 0)
-    ∷ answered (reassembleCommand (part 2066) (more 1 2 9) 0)
-    ∷ answered (reassembleCommand impossible (more 1 2 3) 0)
-    ∷ answered (reassembleCommand (part 2067) (more 1 2 3) 0)
-    ∷ answered (reassembleCommand (part 2066) (more 1 2 3) 0)
-    ∷ answered (reassembleCommand (part 2065) (more 1 2 3) 2065)
-    ∷ answered (reassembleCommand (part 2065) (more 1 2 3) 2066)
-    ∷ answered (reassembleCommand (part 2065) (last 1 2 3) 2066)
-    ∷ answered (reassembleCommand empty (more 9 8 7) 1)
-    ∷ answered (reassembleCommand empty (last 1 2 3) 1)
-    ∷ answered (reassembleCommand (part 1) (more 9 2 3) 9)
-    ∷ answered (reassembleCommand (part 1) (last 9 2 3) 9)
-    ∷ answered (reassembleCommand (part 1) (last 1 9 3) 9)
-    ∷ answered (reassembleCommand (part 1) (last 1 2 9) 9)
-    ∷ answered (reassembleCommand (part 2066) (last 1 2 3) 2066)
-    ∷ answered (reassembleCommand (part 2065) (last 1 2 3) 2065)
+chain_answers :
+    answered (reassemble_command (part 2066) (more 9 2 3) 0)
+    ∷ answered (reassemble_command (part 2066) (more 1 9 3) 0)
+    ∷ answered (reassemble_command (part 2066) (more 1 2 9) 0)
+    ∷ answered (reassemble_command impossible (more 1 2 3) 0)
+    ∷ answered (reassemble_command (part 2067) (more 1 2 3) 0)
+    ∷ answered (reassemble_command (part 2066) (more 1 2 3) 0)
+    ∷ answered (reassemble_command (part 2065) (more 1 2 3) 2065)
+    ∷ answered (reassemble_command (part 2065) (more 1 2 3) 2066)
+    ∷ answered (reassemble_command (part 2065) (last 1 2 3) 2066)
+    ∷ answered (reassemble_command empty (more 9 8 7) 1)
+    ∷ answered (reassemble_command empty (last 1 2 3) 1)
+    ∷ answered (reassemble_command (part 1) (more 9 2 3) 9)
+    ∷ answered (reassemble_command (part 1) (last 9 2 3) 9)
+    ∷ answered (reassemble_command (part 1) (last 1 9 3) 9)
+    ∷ answered (reassemble_command (part 1) (last 1 2 9) 9)
+    ∷ answered (reassemble_command (part 2066) (last 1 2 3) 2066)
+    ∷ answered (reassemble_command (part 2065) (last 1 2 3) 2065)
     ∷ []
     ≡ (14 ∷ 0 ∷ 0 ∷ 0 ∷ 0 ∷ 0 ∷ [])
     ∷ (14 ∷ 0 ∷ 0 ∷ 0 ∷ 0 ∷ 0 ∷ [])
@@ -154,16 +154,16 @@ chain-answers :
     ∷ (4 ∷ 0 ∷ 0 ∷ 0 ∷ 0 ∷ 0 ∷ [])
     ∷ (6 ∷ 2066 ∷ 0 ∷ 0 ∷ 0 ∷ 0 ∷ [])
     ∷ []
-unfolding answered answer part impossible more last reassembleCommand concluded taken reassemblyChecks require◌else◌⨾◌ possible continues wellFormed isChained is_last fragmentApdu
-chain-answers = refl
+unfolding answered answer part impossible more last reassemble_command concluded taken reassembly_checks require◌else◌⨾◌ possible continues well_formed is_chained is_last fragment_apdu
+chain_answers = refl
 
 -- ---- the caller's buffer: data behind what stands there; at a refusal it stays
 buffers :
-    reassemblyBuffer (part 2) (more 1 2 3) (7 ∷ 8 ∷ 9 ∷ 6 ∷ [])
-    ∷ reassemblyBuffer empty (last 1 2 3) (7 ∷ 8 ∷ [])
-    ∷ reassemblyBuffer (part 2) (more 1 2 9) (7 ∷ 8 ∷ 9 ∷ 6 ∷ [])
-    ∷ reassemblyBuffer (part 2) (more 1 2 3) (7 ∷ 8 ∷ [])
+    reassembly_buffer (part 2) (more 1 2 3) (7 ∷ 8 ∷ 9 ∷ 6 ∷ [])
+    ∷ reassembly_buffer empty (last 1 2 3) (7 ∷ 8 ∷ [])
+    ∷ reassembly_buffer (part 2) (more 1 2 9) (7 ∷ 8 ∷ 9 ∷ 6 ∷ [])
+    ∷ reassembly_buffer (part 2) (more 1 2 3) (7 ∷ 8 ∷ [])
     ∷ []
     ≡ (7 ∷ 8 ∷ 5 ∷ 6 ∷ []) ∷ (5 ∷ 8 ∷ []) ∷ (7 ∷ 8 ∷ 9 ∷ 6 ∷ []) ∷ (7 ∷ 8 ∷ []) ∷ []
-unfolding part more last reassemblyBuffer written put reassemblyChecks require◌else◌⨾◌ possible continues wellFormed isChained is_last fragmentApdu
+unfolding part more last reassembly_buffer written put reassembly_checks require◌else◌⨾◌ possible continues well_formed is_chained is_last fragment_apdu
 buffers = refl

@@ -1,26 +1,26 @@
 -- What holds of command chaining, of the definitions. Each statement stands in specs/Chains.
 use Rattle.chain_command.specs.Chains.{ExactShapes, WrittenAreWellFormed, Reassembles, ReachedArePossible, PossibleAreReached, LeavesPossible, OthersAreRefused}
-use Rattle.chain_command.proofs.ExactShapes.{exact-shapes, written-are-well-formed}
+use Rattle.chain_command.proofs.ExactShapes.{exact_shapes, written_are_well_formed}
 use Rattle.chain_command.proofs.WholeCommand.{reassembles}
-use Rattle.chain_command.proofs.PossibleChains.{leaves-possible, reached-are-possible, possible-are-reached, others-are-refused}
+use Rattle.chain_command.proofs.PossibleChains.{leaves_possible, reached_are_possible, possible_are_reached, others_are_refused}
 
 pub shapes : ExactShapes
-shapes = exact-shapes
+shapes = exact_shapes
 
-pub shapes-written : WrittenAreWellFormed
-shapes-written = written-are-well-formed
+pub shapes_written : WrittenAreWellFormed
+shapes_written = written_are_well_formed
 
-pub whole-command : Reassembles
-whole-command = reassembles
+pub whole_command : Reassembles
+whole_command = reassembles
 
 pub leaves : LeavesPossible
-leaves = leaves-possible
+leaves = leaves_possible
 
-pub reached-possible : ReachedArePossible
-reached-possible = reached-are-possible
+pub reached_possible : ReachedArePossible
+reached_possible = reached_are_possible
 
-pub possible-reached : PossibleAreReached
-possible-reached = possible-are-reached
+pub possible_reached : PossibleAreReached
+possible_reached = possible_are_reached
 
-pub others-refused : OthersAreRefused
-others-refused = others-are-refused
+pub others_refused : OthersAreRefused
+others_refused = others_are_refused

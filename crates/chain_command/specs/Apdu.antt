@@ -14,28 +14,28 @@ abbrev pub header : ℕ → ℕ → ℕ → Header
 header ins p1 p2 = record { ins = ins; p1 = p1; p2 = p2 }
 
 -- CLA of secure messaging, and the same with the bit of command chaining
-abbrev pub lastCla : ℕ
-lastCla = 0x0C
+abbrev pub last_cla : ℕ
+last_cla = 0x0C
 
-abbrev pub chainedCla : ℕ
-chainedCla = 0x1C
+abbrev pub chained_cla : ℕ
+chained_cla = 0x1C
 
 -- ---- written
 
 -- with Lc, the length of the data
-abbrev pub commandApdu : ℕ → Header → Bytes → Bytes
-commandApdu cla h d = cla ∷ h.ins ∷ h.p1 ∷ h.p2 ∷ length d ∷ d
+abbrev pub command_apdu : ℕ → Header → Bytes → Bytes
+command_apdu cla h d = cla ∷ h.ins ∷ h.p1 ∷ h.p2 ∷ length d ∷ d
 
-unfoldable pub fragmentApdu : Bool → Header → Bytes → Bytes
-fragmentApdu last h d = if last then commandApdu lastCla h d ++ 0x00 ∷ [] else commandApdu chainedCla h d
+unfoldable pub fragment_apdu : Bool → Header → Bytes → Bytes
+fragment_apdu last h d = if last then command_apdu last_cla h d ++ 0x00 ∷ [] else command_apdu chained_cla h d
 
 -- ---- read
 
 abbrev pub cla : Bytes → ℕ
 cla apdu = get_or apdu 0 0
 
-abbrev pub headerOf : Bytes → Header
-headerOf apdu = header (get_or apdu 1 0) (get_or apdu 2 0) (get_or apdu 3 0)
+abbrev pub header_of : Bytes → Header
+header_of apdu = header (get_or apdu 1 0) (get_or apdu 2 0) (get_or apdu 3 0)
 
 abbrev pub lc : Bytes → ℕ
 lc apdu = get_or apdu 4 0
@@ -44,12 +44,12 @@ abbrev pub data_of : Bytes → Bytes
 data_of apdu = take (lc apdu) (drop 5 apdu)
 
 -- the two shapes, each as long as its Lc says
-unfoldable pub isChained : Bytes → Bool
-isChained apdu = eqb (cla apdu) chainedCla && eqb (length apdu) (5 + lc apdu)
+unfoldable pub is_chained : Bytes → Bool
+is_chained apdu = eqb (cla apdu) chained_cla && eqb (length apdu) (5 + lc apdu)
 
 unfoldable pub is_last : Bytes → Bool
-is_last apdu = eqb (cla apdu) lastCla && eqb (length apdu) (6 + lc apdu) && eqb (get_or apdu (5 + lc apdu) 0) 0x00
+is_last apdu = eqb (cla apdu) last_cla && eqb (length apdu) (6 + lc apdu) && eqb (get_or apdu (5 + lc apdu) 0) 0x00
 
 -- "only these exact shapes, Lc 1 to 255"
-unfoldable pub wellFormed : Bytes → Bool
-wellFormed apdu = leb 1 (lc apdu) && leb (lc apdu) 255 && (isChained apdu || is_last apdu)
+unfoldable pub well_formed : Bytes → Bool
+well_formed apdu = leb 1 (lc apdu) && leb (lc apdu) 255 && (is_chained apdu || is_last apdu)

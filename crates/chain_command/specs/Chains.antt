@@ -4,9 +4,9 @@ use Rattle.octets.specs.Bytes.{Bytes, tabulate}
 use Rattle.octets.specs.Choice.{if◌then◌else◌}
 use Rattle.octets.specs.Write.{over}
 use Rattle.refusal.specs.declared.Refusal.TheVariants.{Malformed, BrokenChain}
-use Rattle.chain_command.specs.Apdu.{Header, fragmentApdu, headerOf, data_of, is_last, wellFormed}
-use Rattle.chain_command.specs.Fragment.{longestField, maxFragment, fragmentSize, fragmentCount, fragment}
-use Rattle.chain_command.specs.Reassembly.{empty, possible, reassembleCommand, reassemblyBuffer}
+use Rattle.chain_command.specs.Apdu.{Header, fragment_apdu, header_of, data_of, is_last, well_formed}
+use Rattle.chain_command.specs.Fragment.{longest_field, max_fragment, fragment_size, fragment_count, fragment}
+use Rattle.chain_command.specs.Reassembly.{empty, possible, reassemble_command, reassembly_buffer}
 use Rattle.chain_command.specs.declared.CommandChain.{CommandChain}
 use Rattle.chain_command.specs.declared.ReassemblyAnswer.{ReassemblyAnswer}
 use Rattle.chain_command.specs.declared.ReassemblyAnswer.TheVariants.{More, Whole, Refused}
@@ -16,17 +16,17 @@ use Rattle.chain_command.specs.declared.ReassemblyAnswer.TheVariants.{More, Whol
 -- the exact shapes, and no others: a well-formed APDU is the writing of its header and its data
 abbrev pub ExactShapes : Type 0
 ExactShapes =
-    (apdu : Bytes) → wellFormed apdu ≡ true
-    → (apdu ≡ fragmentApdu (is_last apdu) (headerOf apdu) (data_of apdu)) × (1 ≤ length (data_of apdu)) × (length (data_of apdu) ≤ 255)
+    (apdu : Bytes) → well_formed apdu ≡ true
+    → (apdu ≡ fragment_apdu (is_last apdu) (header_of apdu) (data_of apdu)) × (1 ≤ length (data_of apdu)) × (length (data_of apdu) ≤ 255)
 
 abbrev pub WrittenAreWellFormed : Type 0
 WrittenAreWellFormed =
-    (last : Bool) (h : Header) (d : Bytes) → 1 ≤ length d → length d ≤ 255 → wellFormed (fragmentApdu last h d) ≡ true
+    (last : Bool) (h : Header) (d : Bytes) → 1 ≤ length d → length d ≤ 255 → well_formed (fragment_apdu last h d) ≡ true
 
 -- ---- a whole command
 
 unfoldable pub fragments : Header → Bytes → ℕ → List Bytes
-fragments h field p = tabulate (fragmentCount (length field) p) (fragment h field p)
+fragments h field p = tabulate (fragment_count (length field) p) (fragment h field p)
 
 -- the answers to APDUs, the chain that they leave, and the caller's buffer
 pub record Reassembled : Type 0 where
@@ -35,36 +35,36 @@ pub record Reassembled : Type 0 where
   pub held : Bytes
 
 -- each APDU is taken with the chain and the buffer that the one before it left
-unfoldable pub reassembleAll : CommandChain → Bytes → List Bytes → Reassembled
-reassembleAll c held [] = record { answers = []; chain = c; held = held }
-reassembleAll c held (apdu ∷ apdus) =
-    let first = reassembleCommand c apdu (length held) in
-    let rest = reassembleAll first.chain (reassemblyBuffer c apdu held) apdus in
+unfoldable pub reassemble_all : CommandChain → Bytes → List Bytes → Reassembled
+reassemble_all c held [] = record { answers = []; chain = c; held = held }
+reassemble_all c held (apdu ∷ apdus) =
+    let first = reassemble_command c apdu (length held) in
+    let rest = reassemble_all first.chain (reassembly_buffer c apdu held) apdus in
     record { answers = first.answer ∷ rest.answers; chain = rest.chain; held = rest.held }
 
 -- 90 00 to each fragment but the last, which gives the field's length and the header
-unfoldable pub answersTo : Header → ℕ → ℕ → List ReassemblyAnswer
-answersTo h n p =
-    tabulate (fragmentCount n p - 1) (λ k. More (suc k * fragmentSize p) 0x90 0x00) ++ Whole n h.ins h.p1 h.p2 ∷ []
+unfoldable pub answers_to : Header → ℕ → ℕ → List ReassemblyAnswer
+answers_to h n p =
+    tabulate (fragment_count n p - 1) (λ k. More (suc k * fragment_size p) 0x90 0x00) ++ Whole n h.ins h.p1 h.p2 ∷ []
 
 -- the fragments of every field, of every size that may be asked for: the field, the header, and an empty chain
 abbrev pub Reassembles : Type 0
 Reassembles =
     (h : Header) (field : Bytes) (p : ℕ) (held : Bytes)
-    → 1 ≤ length field → length field ≤ longestField → p ≤ maxFragment → length field ≤ length held
-    → reassembleAll empty held (fragments h field p)
-    ≡ record { answers = answersTo h (length field) p; chain = empty; held = over held field }
+    → 1 ≤ length field → length field ≤ longest_field → p ≤ max_fragment → length field ≤ length held
+    → reassemble_all empty held (fragments h field p)
+    ≡ record { answers = answers_to h (length field) p; chain = empty; held = over held field }
 
 -- ---- the chains that fragments can lead to
 
 pub data Reached : CommandChain → Type 0 where
   none : Reached empty
-  more : (c : CommandChain) (apdu : Bytes) (room n sw1 sw2 : ℕ) → Reached c → (reassembleCommand c apdu room).answer ≡ More n sw1 sw2
-      → Reached (reassembleCommand c apdu room).chain
+  more : (c : CommandChain) (apdu : Bytes) (room n sw1 sw2 : ℕ) → Reached c → (reassemble_command c apdu room).answer ≡ More n sw1 sw2
+      → Reached (reassemble_command c apdu room).chain
 
 -- every call leaves a possible chain, whatever it was given
 abbrev pub LeavesPossible : Type 0
-LeavesPossible = (c : CommandChain) (apdu : Bytes) (room : ℕ) → possible (reassembleCommand c apdu room).chain ≡ true
+LeavesPossible = (c : CommandChain) (apdu : Bytes) (room : ℕ) → possible (reassemble_command c apdu room).chain ≡ true
 
 -- the chains that are reached are the possible ones
 abbrev pub ReachedArePossible : Type 0
@@ -77,4 +77,4 @@ PossibleAreReached = (c : CommandChain) → possible c ≡ true → Reached c
 abbrev pub OthersAreRefused : Type 0
 OthersAreRefused =
     (c : CommandChain) (apdu : Bytes) (room : ℕ) → possible c ≡ false
-    → (reassembleCommand c apdu room).answer ≡ Refused (if wellFormed apdu then BrokenChain else Malformed)
+    → (reassemble_command c apdu room).answer ≡ Refused (if well_formed apdu then BrokenChain else Malformed)

@@ -6,42 +6,42 @@ use Rattle.octets.specs.Choice.{if◌then◌else◌}
 use Rattle.chain_parts.specs.Parts.{ceiling}
 use Rattle.refusal.specs.declared.Refusal.TheVariants.{TooLong, BufferTooSmall, BrokenChain, FragmentTooLong}
 use Rattle.message_answer.specs.Answer.{Answer, refused, gave, require◌else◌⨾◌}
-use Rattle.chain_command.specs.Apdu.{Header, fragmentApdu}
+use Rattle.chain_command.specs.Apdu.{Header, fragment_apdu}
 use Rattle.chain_command.specs.declared.FragmentAnswer.{FragmentAnswer}
 use Rattle.chain_command.specs.declared.FragmentAnswer.TheVariants.{Fragment, Refused}
 
 -- the longest field that is wrapped; how long a field may be that is read is another limit
-abbrev pub longestField : ℕ
-longestField = 2066
+abbrev pub longest_field : ℕ
+longest_field = 2066
 
 -- the largest fragment, and the one that 0 asks for
-abbrev pub maxFragment : ℕ
-maxFragment = 255
+abbrev pub max_fragment : ℕ
+max_fragment = 255
 
-abbrev pub defaultFragment : ℕ
-defaultFragment = 255
+abbrev pub default_fragment : ℕ
+default_fragment = 255
 
-unfoldable pub fragmentSize : ℕ → ℕ
-fragmentSize p = if eqb p 0 then defaultFragment else p
+unfoldable pub fragment_size : ℕ → ℕ
+fragment_size p = if eqb p 0 then default_fragment else p
 
 -- of a field of n bytes, with the size that was asked for
-unfoldable pub fragmentCount : ℕ → ℕ → ℕ
-fragmentCount n p = ceiling n (fragmentSize p)
+unfoldable pub fragment_count : ℕ → ℕ → ℕ
+fragment_count n p = ceiling n (fragment_size p)
 
 -- fragment k, from 0
 unfoldable pub fragment : Header → Bytes → ℕ → ℕ → Bytes
 fragment h field p k =
-    fragmentApdu (eqb (suc k) (fragmentCount (length field) p)) h (take (fragmentSize p) (drop (k * fragmentSize p) field))
+    fragment_apdu (eqb (suc k) (fragment_count (length field) p)) h (take (fragment_size p) (drop (k * fragment_size p) field))
 
-unfoldable pub fragmentCommand : Header → Bytes → ℕ → ℕ → ℕ → Answer Bytes
-fragmentCommand h field p k room =
-    require leb p maxFragment else FragmentTooLong ⨾
-    require leb (length field) longestField else TooLong ⨾
-    require ltb k (fragmentCount (length field) p) else BrokenChain ⨾
+unfoldable pub fragment_command : Header → Bytes → ℕ → ℕ → ℕ → Answer Bytes
+fragment_command h field p k room =
+    require leb p max_fragment else FragmentTooLong ⨾
+    require leb (length field) longest_field else TooLong ⨾
+    require ltb k (fragment_count (length field) p) else BrokenChain ⨾
     require leb (length (fragment h field p k)) room else BufferTooSmall (length (fragment h field p k)) ⨾
     gave (fragment h field p k)
 
 -- as the function gives it: the APDU stands in the caller's buffer
-abbrev pub fragmentAnswer : Answer Bytes → FragmentAnswer
-fragmentAnswer (refused r) = Refused r
-fragmentAnswer (gave apdu) = Fragment (length apdu)
+abbrev pub fragment_answer : Answer Bytes → FragmentAnswer
+fragment_answer (refused r) = Refused r
+fragment_answer (gave apdu) = Fragment (length apdu)

@@ -4,9 +4,9 @@ use Rattle.octets.specs.Bytes.{Bytes}
 use Rattle.octets.specs.Choice.{if◌then◌else◌}
 use Rattle.octets.specs.Write.{put}
 use Rattle.refusal.specs.declared.Refusal.TheVariants.{TooLong, BufferTooSmall, Malformed, BrokenChain}
-use Rattle.message_answer.specs.Message.{maxCommandField}
+use Rattle.message_answer.specs.Message.{max_command_field}
 use Rattle.message_answer.specs.Answer.{Answer, refused, gave, require◌else◌⨾◌}
-use Rattle.chain_command.specs.Apdu.{Header, headerOf, lc, data_of, is_last, wellFormed}
+use Rattle.chain_command.specs.Apdu.{Header, header_of, lc, data_of, is_last, well_formed}
 use Rattle.chain_command.specs.declared.CommandChain.{CommandChain}
 use Rattle.chain_command.specs.declared.ReassemblyAnswer.TheVariants.{More, Whole, Refused}
 use Rattle.chain_command.specs.declared.Reassembly.{Reassembly}
@@ -19,7 +19,7 @@ chain h n = record { len = n; ins = h.ins; p1 = h.p1; p2 = h.p2 }
 
 -- fragments could have led to it
 unfoldable pub possible : CommandChain → Bool
-possible c = if eqb c.len 0 then eqb c.ins 0 && eqb c.p1 0 && eqb c.p2 0 else leb c.len maxCommandField
+possible c = if eqb c.len 0 then eqb c.ins 0 && eqb c.p1 0 && eqb c.p2 0 else leb c.len max_command_field
 
 -- the first fragment of a chain, or one with its INS, P1 and P2
 unfoldable pub continues : CommandChain → Header → Bool
@@ -29,11 +29,11 @@ continues c h = eqb c.len 0 || (eqb h.ins c.ins && eqb h.p1 c.p1 && eqb h.p2 c.p
 abbrev pub total : CommandChain → Bytes → ℕ
 total c apdu = c.len + lc apdu
 
-unfoldable pub reassemblyChecks : CommandChain → Bytes → ℕ → Answer (Unit {0})
-reassemblyChecks c apdu room =
-    require wellFormed apdu else Malformed ⨾
-    require possible c && continues c (headerOf apdu) else BrokenChain ⨾
-    require leb (total c apdu) maxCommandField else TooLong ⨾
+unfoldable pub reassembly_checks : CommandChain → Bytes → ℕ → Answer (Unit {0})
+reassembly_checks c apdu room =
+    require well_formed apdu else Malformed ⨾
+    require possible c && continues c (header_of apdu) else BrokenChain ⨾
+    require leb (total c apdu) max_command_field else TooLong ⨾
     require leb (total c apdu) room else BufferTooSmall (total c apdu) ⨾
     gave tt
 
@@ -47,15 +47,15 @@ taken h n last =
 -- "any refusal drops what was joined"
 unfoldable pub concluded : CommandChain → Bytes → Answer (Unit {0}) → Reassembly
 concluded c apdu (refused r) = record { answer = Refused r; chain = empty }
-concluded c apdu (gave passed) = taken (headerOf apdu) (total c apdu) (is_last apdu)
+concluded c apdu (gave passed) = taken (header_of apdu) (total c apdu) (is_last apdu)
 
-unfoldable pub reassembleCommand : CommandChain → Bytes → ℕ → Reassembly
-reassembleCommand c apdu room = concluded c apdu (reassemblyChecks c apdu room)
+unfoldable pub reassemble_command : CommandChain → Bytes → ℕ → Reassembly
+reassemble_command c apdu room = concluded c apdu (reassembly_checks c apdu room)
 
 -- the caller's buffer: the fragment's data behind what stands there; at a refusal it stays
 unfoldable pub written : CommandChain → Bytes → Bytes → Answer (Unit {0}) → Bytes
 written c apdu held (refused r) = held
 written c apdu held (gave passed) = put held c.len (data_of apdu)
 
-unfoldable pub reassemblyBuffer : CommandChain → Bytes → Bytes → Bytes
-reassemblyBuffer c apdu held = written c apdu held (reassemblyChecks c apdu (length held))
+unfoldable pub reassembly_buffer : CommandChain → Bytes → Bytes → Bytes
+reassembly_buffer c apdu held = written c apdu held (reassembly_checks c apdu (length held))

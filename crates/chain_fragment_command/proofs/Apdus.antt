@@ -7,19 +7,19 @@ use Prim.Native.Nat.{◌+◌}
 use native.Mathlib.Omega.{arith}
 use lib.ListN.{length, length-append}
 use Rattle.octets.specs.Bytes.{Bytes}
-use Rattle.chain_command.specs.Apdu.{Header, lastCla, chainedCla, commandApdu, fragmentApdu}
+use Rattle.chain_command.specs.Apdu.{Header, last_cla, chained_cla, command_apdu, fragment_apdu}
 
 module _ (last : Bool) (h : Header) (d : Bytes) where
-  pub apdu-last : last ≡ true → fragmentApdu last h d ≡ commandApdu lastCla h d ++ 0x00 ∷ []
-  unfolding fragmentApdu
-  apdu-last e = rw e
+  pub apdu_last : last ≡ true → fragment_apdu last h d ≡ command_apdu last_cla h d ++ 0x00 ∷ []
+  unfolding fragment_apdu
+  apdu_last e = rw e
 
-  pub apdu-chained : last ≡ false → fragmentApdu last h d ≡ commandApdu chainedCla h d
-  unfolding fragmentApdu
-  apdu-chained e = rw e
+  pub apdu_chained : last ≡ false → fragment_apdu last h d ≡ command_apdu chained_cla h d
+  unfolding fragment_apdu
+  apdu_chained e = rw e
 
-  pub length-apdu-last : last ≡ true → length (fragmentApdu last h d) ≡ 6 + length d
-  length-apdu-last e = rw (apdu-last e) (simp length-append (omega arith))
+  pub length_apdu_last : last ≡ true → length (fragment_apdu last h d) ≡ 6 + length d
+  length_apdu_last e = rw (apdu_last e) (simp length-append (omega arith))
 
-  pub length-apdu-chained : last ≡ false → length (fragmentApdu last h d) ≡ 5 + length d
-  length-apdu-chained e = rw (apdu-chained e) (omega arith)
+  pub length_apdu_chained : last ≡ false → length (fragment_apdu last h d) ≡ 5 + length d
+  length_apdu_chained e = rw (apdu_chained e) (omega arith)

@@ -7,52 +7,52 @@ use native.Mathlib.Nat.{le-mul_of_pos_right}
 use native.Mathlib.Omega.{arith}
 use lib.ListN.{length, take, drop, length-take}
 use Rattle.octets.specs.Bytes.{Bytes}
-use Rattle.chain_command.specs.Apdu.{Header, fragmentApdu}
-use Rattle.chain_command.specs.Fragment.{fragmentSize, fragmentCount, fragment}
-use Rattle.chain_parts.proofs.Ceiling.{starts-within}
-use Rattle.chain_parts.proofs.PartEnds.{ends-within, part_bytes}
+use Rattle.chain_command.specs.Apdu.{Header, fragment_apdu}
+use Rattle.chain_command.specs.Fragment.{fragment_size, fragment_count, fragment}
+use Rattle.chain_parts.proofs.Ceiling.{starts_within}
+use Rattle.chain_parts.proofs.PartEnds.{ends_within, part_bytes}
 use Rattle.chain_command.proofs.Sizes.{sized}
-use Rattle.chain_fragment_command.specs.FragmentPart.{fragmentPart}
+use Rattle.chain_fragment_command.specs.FragmentPart.{fragment_part}
 use Rattle.chain_fragment_command.specs.declared.part.Part.{Part}
-use Rattle.chain_fragment_command.proofs.Apdus.{length-apdu-last, length-apdu-chained}
+use Rattle.chain_fragment_command.proofs.Apdus.{length_apdu_last, length_apdu_chained}
 
 -- ---- where fragment k starts
 
-module _ (field : Bytes) (p k : ℕ) (small : p ≤ 255) (numbered : k < fragmentCount (length field) p) where
-  pub starts-in : (most : ℕ) → most ≡ fragmentSize p → k * most < length field
-  unfolding fragmentCount
-  starts-in most m = rw m (starts-within (length field) (fragmentSize p) k (sized p small).positive numbered)
+module _ (field : Bytes) (p k : ℕ) (small : p ≤ 255) (numbered : k < fragment_count (length field) p) where
+  pub starts_in : (most : ℕ) → most ≡ fragment_size p → k * most < length field
+  unfolding fragment_count
+  starts_in most m = rw m (starts_within (length field) (fragment_size p) k (sized p small).positive numbered)
 
   -- there is a byte for each fragment
   pub number_in : k < length field
-  number_in = omega (arith, starts-in (fragmentSize p) refl, le-mul_of_pos_right k (sized p small).positive)
+  number_in = omega (arith, starts_in (fragment_size p) refl, le-mul_of_pos_right k (sized p small).positive)
 
 -- ---- the part, as the code found it
 
-module _ (field : Bytes) (p k : ℕ) (part : Part) (e : part ≡ fragmentPart field p k) where
-  pub part-order : part.start ≤ part.end
-  part-order = rw e (omega arith)
+module _ (field : Bytes) (p k : ℕ) (part : Part) (e : part ≡ fragment_part field p k) where
+  pub part_order : part.start ≤ part.end
+  part_order = rw e (omega arith)
 
-  pub part-within : p ≤ 255 → k < fragmentCount (length field) p → part.end ≤ length field
-  part-within small numbered = rw e (ends-within field (k * fragmentSize p) (fragmentSize p) (omega (arith, starts-in field p k small numbered (fragmentSize p) refl)))
+  pub part_within : p ≤ 255 → k < fragment_count (length field) p → part.end ≤ length field
+  part_within small numbered = rw e (ends_within field (k * fragment_size p) (fragment_size p) (omega (arith, starts_in field p k small numbered (fragment_size p) refl)))
 
-  part-is : take (part.end - part.start) (drop part.start field) ≡ take (fragmentSize p) (drop (k * fragmentSize p) field)
-  part-is =
-      rw (ap (λ (q : Part). q.start) e) (part_bytes field (k * fragmentSize p) (fragmentSize p) part.end (ap (λ (q : Part). q.end) e))
+  part_is : take (part.end - part.start) (drop part.start field) ≡ take (fragment_size p) (drop (k * fragment_size p) field)
+  part_is =
+      rw (ap (λ (q : Part). q.start) e) (part_bytes field (k * fragment_size p) (fragment_size p) part.end (ap (λ (q : Part). q.end) e))
 
   pub length_part : length (take (part.end - part.start) (drop part.start field)) ≡ part.end - part.start
-  length_part = rw (part-is, e) (omega arith)
+  length_part = rw (part_is, e) (omega arith)
 
-  pub short-part : p ≤ 255 → part.end - part.start ≤ 255
-  short-part small = rw e (omega (arith, (sized p small).small, length-take (fragmentSize p) (drop (k * fragmentSize p) field)))
+  pub short_part : p ≤ 255 → part.end - part.start ≤ 255
+  short_part small = rw e (omega (arith, (sized p small).small, length-take (fragment_size p) (drop (k * fragment_size p) field)))
 
   module _ (h : Header) where
-    pub part-apdu : fragmentApdu part.last h (take (part.end - part.start) (drop part.start field)) ≡ fragment h field p k
+    pub part_apdu : fragment_apdu part.last h (take (part.end - part.start) (drop part.start field)) ≡ fragment h field p k
     unfolding fragment
-    part-apdu = rw (part-is, e)
+    part_apdu = rw (part_is, e)
 
     pub length_last : part.last ≡ true → 6 + (part.end - part.start) ≡ length (fragment h field p k)
-    length_last l = omega (arith, length_part, length-apdu-last part.last h (take (part.end - part.start) (drop part.start field)) l, ap length part-apdu)
+    length_last l = omega (arith, length_part, length_apdu_last part.last h (take (part.end - part.start) (drop part.start field)) l, ap length part_apdu)
 
-    pub length-chained : part.last ≡ false → 5 + (part.end - part.start) ≡ length (fragment h field p k)
-    length-chained l = omega (arith, length_part, length-apdu-chained part.last h (take (part.end - part.start) (drop part.start field)) l, ap length part-apdu)
+    pub length_chained : part.last ≡ false → 5 + (part.end - part.start) ≡ length (fragment h field p k)
+    length_chained l = omega (arith, length_part, length_apdu_chained part.last h (take (part.end - part.start) (drop part.start field)) l, ap length part_apdu)

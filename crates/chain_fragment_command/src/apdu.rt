@@ -1,7 +1,7 @@
 // The APDU of a command fragment, written into the caller's buffer (document 01, "The wire"; SP 800-73-4 Part 2, 4.2.4).
 ghost use Rattle.std.specs.Prelude.{◌+◌, ◌≤◌, length};
 ghost use Rattle.octets.specs.Write.{Wrote};
-ghost use Rattle.chain_command.specs.Apdu.{header, commandApdu, fragmentApdu};
+ghost use Rattle.chain_command.specs.Apdu.{header, command_apdu, fragment_apdu};
 
 use octets::{put_byte, put_bytes};
 
@@ -13,7 +13,7 @@ const CHAINED_CLA: u8 = 0x1C;
 // CLA, INS, P1, P2, Lc and data, from index 0 on; the index behind them.
 fn put_command(out: &mut [u8], cla: u8, ins: u8, p1: u8, p2: u8, data: &[u8]) -> usize
     requires { (length «data».now ≤ 255) × (5 + length «data».now ≤ length out.old) }
-    ensures { Wrote out.old 0 (commandApdu cla (header ins p1 p2) «data».now) result out.new }
+    ensures { Wrote out.old 0 (command_apdu cla (header ins p1 p2) «data».now) result out.new }
 {
     let lc = data.len() as u8;
     let n = put_bytes(out, 0, &[cla, ins, p1, p2, lc]);
@@ -22,8 +22,8 @@ fn put_command(out: &mut [u8], cla: u8, ins: u8, p1: u8, p2: u8, data: &[u8]) ->
 
 // The APDU of the last fragment ends with Le '00'.
 pub fn put_apdu(out: &mut [u8], last: bool, ins: u8, p1: u8, p2: u8, data: &[u8]) -> usize
-    requires { (length «data».now ≤ 255) × (length (fragmentApdu last (header ins p1 p2) «data».now) ≤ length out.old) }
-    ensures { Wrote out.old 0 (fragmentApdu last (header ins p1 p2) «data».now) result out.new }
+    requires { (length «data».now ≤ 255) × (length (fragment_apdu last (header ins p1 p2) «data».now) ≤ length out.old) }
+    ensures { Wrote out.old 0 (fragment_apdu last (header ins p1 p2) «data».now) result out.new }
 {
     if last {
         let n = put_command(out, LAST_CLA, ins, p1, p2, data);

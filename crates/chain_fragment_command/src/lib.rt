@@ -7,7 +7,7 @@ ghost use Rattle.std.specs.Prelude.{◌≡◌, ◌<◌, ◌≤◌, length};
 ghost use Rattle.octets.specs.Write.{Wrote};
 ghost use Rattle.message_answer.specs.Answer.{buffer};
 ghost use Rattle.chain_command.specs.Apdu.{header};
-ghost use Rattle.chain_command.specs.Fragment.{longestField, fragmentCount, fragment, fragmentCommand, fragmentAnswer};
+ghost use Rattle.chain_command.specs.Fragment.{longest_field, fragment_count, fragment, fragment_command, fragment_answer};
 
 use apdu::put_apdu;
 use chain_command::FragmentAnswer;
@@ -24,7 +24,7 @@ fn put_fragment(
     size: usize,
     number: usize,
 ) -> usize
-    requires { (length field.now ≤ longestField) × (size ≤ 255) × (number < fragmentCount (length field.now) size) × (length (fragment (header ins p1 p2) field.now size number) ≤ length out.old) }
+    requires { (length field.now ≤ longest_field) × (size ≤ 255) × (number < fragment_count (length field.now) size) × (length (fragment (header ins p1 p2) field.now size number) ≤ length out.old) }
     ensures { Wrote out.old 0 (fragment (header ins p1 p2) field.now size number) result out.new }
 {
     let part = fragment_part(field, size, number);
@@ -43,8 +43,8 @@ pub fn fragment_command(
     number: usize,
     out: &mut [u8],
 ) -> FragmentAnswer
-    ensures answer { result ≡ fragmentAnswer (fragmentCommand (header ins p1 p2) field.now size number (length out.old)) }
-    ensures output { out.new ≡ buffer (λ apdu. apdu) out.old (fragmentCommand (header ins p1 p2) field.now size number (length out.old)) }
+    ensures answer { result ≡ fragment_answer (fragment_command (header ins p1 p2) field.now size number (length out.old)) }
+    ensures output { out.new ≡ buffer (λ apdu. apdu) out.old (fragment_command (header ins p1 p2) field.now size number (length out.old)) }
 {
     let checked = fragment_checks(field, size, number, out.len());
     match checked {

@@ -1,8 +1,8 @@
 // The parts of a command field: how many fragments it has, which part each holds, and how long its APDU is (document 01, "The wire").
 ghost use Rattle.std.specs.Prelude.{◌≡◌, ◌<◌, ◌≤◌, length};
 ghost use Rattle.chain_command.specs.Apdu.{Header};
-ghost use Rattle.chain_command.specs.Fragment.{longestField, fragmentSize, fragmentCount, fragment};
-ghost use Rattle.chain_fragment_command.specs.FragmentPart.{fragmentPart};
+ghost use Rattle.chain_command.specs.Fragment.{longest_field, fragment_size, fragment_count, fragment};
+ghost use Rattle.chain_fragment_command.specs.FragmentPart.{fragment_part};
 
 use chain_parts::part_end;
 
@@ -18,7 +18,7 @@ pub struct Part {
 }
 
 fn fragment_size(size: usize) -> usize
-    ensures { result ≡ fragmentSize size }
+    ensures { result ≡ fragment_size size }
 {
     if size == 0 {
         return DEFAULT_FRAGMENT;
@@ -28,8 +28,8 @@ fn fragment_size(size: usize) -> usize
 
 // How many fragments a field of n bytes has.
 pub fn fragment_count(n: usize, size: usize) -> usize
-    requires { (n ≤ longestField) × (size ≤ 255) }
-    ensures { result ≡ fragmentCount n size }
+    requires { (n ≤ longest_field) × (size ≤ 255) }
+    ensures { result ≡ fragment_count n size }
 {
     let most = fragment_size(size);
     (n + (most - 1)) / most
@@ -37,8 +37,8 @@ pub fn fragment_count(n: usize, size: usize) -> usize
 
 // The data of fragment `number`, from index `start` up to `end`, and whether it is the last. The number was tested before: the product could overflow.
 pub fn fragment_part(field: &[u8], size: usize, number: usize) -> Part
-    requires { (length field.now ≤ longestField) × (size ≤ 255) × (number < fragmentCount (length field.now) size) }
-    ensures { result ≡ fragmentPart field.now size number }
+    requires { (length field.now ≤ longest_field) × (size ≤ 255) × (number < fragment_count (length field.now) size) }
+    ensures { result ≡ fragment_part field.now size number }
 {
     let count = fragment_count(field.len(), size);
     let most = fragment_size(size);
@@ -53,7 +53,7 @@ pub fn fragment_part(field: &[u8], size: usize, number: usize) -> Part
 
 // The length of a fragment's APDU; INS, P1 and P2 do not change it.
 pub fn apdu_length(field: &[u8], size: usize, number: usize) -> usize
-    requires { (length field.now ≤ longestField) × (size ≤ 255) × (number < fragmentCount (length field.now) size) }
+    requires { (length field.now ≤ longest_field) × (size ≤ 255) × (number < fragment_count (length field.now) size) }
     ensures { (h : Header) → result ≡ length (fragment h field.now size number) }
 {
     let part = fragment_part(field, size, number);

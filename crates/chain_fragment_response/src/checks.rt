@@ -1,7 +1,7 @@
 // The tests of a response fragment before it is written, in their order (document 01, "The wire").
 ghost use Rattle.std.specs.Prelude.{◌≡◌, ◌+◌, ◌-◌};
 ghost use Rattle.message_answer.specs.Message.{status};
-ghost use Rattle.chain_response.specs.Fragment.{next, fragmentResponse, fragmentAnswer};
+ghost use Rattle.chain_response.specs.Fragment.{next, fragment_response, fragment_answer};
 
 use crate::part::next;
 use chain_response::{LONGEST_FIELD, ResponseFragmentAnswer};
@@ -17,7 +17,7 @@ pub fn fragment_checks(
     le: u8,
     room: usize,
 ) -> ResponseFragmentAnswer
-    ensures { result ≡ fragmentAnswer (next field.now at le) (fragmentResponse (status sw1 sw2) field.now at le room) }
+    ensures { result ≡ fragment_answer (next field.now at le) (fragment_response (status sw1 sw2) field.now at le room) }
 {
     if !status_permitted(sw1, sw2) {
         return ResponseFragmentAnswer::Refused(Refusal::NotPermitted);

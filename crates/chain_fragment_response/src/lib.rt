@@ -6,7 +6,7 @@ ghost use Rattle.std.specs.Prelude.{◌≡◌, ◌++◌, ◌+◌, ◌-◌, ◌�
 ghost use Rattle.octets.specs.Write.{Wrote};
 ghost use Rattle.message_answer.specs.Answer.{buffer};
 ghost use Rattle.message_answer.specs.Message.{status};
-ghost use Rattle.chain_response.specs.Fragment.{fragmentStatus, next, fragmentResponse, fragmentAnswer};
+ghost use Rattle.chain_response.specs.Fragment.{fragment_status, next, fragment_response, fragment_answer};
 
 use chain_response::ResponseFragmentAnswer;
 use checks::fragment_checks;
@@ -16,7 +16,7 @@ use part::{next, put_status};
 // Of a fragment that passed its tests: data up to index `end` of the field, and its status word, from index 0 on; the index behind them.
 fn put_fragment(out: &mut [u8], sw1: u8, sw2: u8, field: &[u8], at: usize, end: usize) -> usize
     requires { (at ≤ end) × (end ≤ length field.now) × (end - at + 2 ≤ length out.old) }
-    ensures { Wrote out.old 0 (take (end - at) (drop at field.now) ++ fragmentStatus (status sw1 sw2) (length field.now - end)) result out.new }
+    ensures { Wrote out.old 0 (take (end - at) (drop at field.now) ++ fragment_status (status sw1 sw2) (length field.now - end)) result out.new }
 {
     let n = put_bytes(out, 0, &field[at..end]);
     put_status(out, n, sw1, sw2, field.len() - end)
@@ -31,8 +31,8 @@ pub fn fragment_response(
     le: u8,
     out: &mut [u8],
 ) -> ResponseFragmentAnswer
-    ensures answer { result ≡ fragmentAnswer (next field.now at le) (fragmentResponse (status sw1 sw2) field.now at le (length out.old)) }
-    ensures output { out.new ≡ buffer (λ bytes. bytes) out.old (fragmentResponse (status sw1 sw2) field.now at le (length out.old)) }
+    ensures answer { result ≡ fragment_answer (next field.now at le) (fragment_response (status sw1 sw2) field.now at le (length out.old)) }
+    ensures output { out.new ≡ buffer (λ bytes. bytes) out.old (fragment_response (status sw1 sw2) field.now at le (length out.old)) }
 {
     let checked = fragment_checks(sw1, sw2, field, at, le, out.len());
     match checked {

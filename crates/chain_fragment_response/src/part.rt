@@ -2,7 +2,7 @@
 ghost use Rattle.std.specs.Prelude.{◌≡◌, ◌+◌, ◌≤◌, length};
 ghost use Rattle.octets.specs.Write.{Wrote};
 ghost use Rattle.message_answer.specs.Message.{status};
-ghost use Rattle.chain_response.specs.Fragment.{asked, announced, fragmentStatus, next};
+ghost use Rattle.chain_response.specs.Fragment.{asked, announced, fragment_status, next};
 
 use chain_parts::part_end;
 use message_answer::MORE_SW1;
@@ -38,7 +38,7 @@ fn announced(n: usize) -> u8
 // The status word of a fragment with `left` bytes left after it, from index `at` on; the index behind it.
 pub fn put_status(out: &mut [u8], at: usize, sw1: u8, sw2: u8, left: usize) -> usize
     requires { at + 2 ≤ length out.old }
-    ensures { Wrote out.old at (fragmentStatus (status sw1 sw2) left) result out.new }
+    ensures { Wrote out.old at (fragment_status (status sw1 sw2) left) result out.new }
 {
     if left == 0 {
         return put_bytes(out, at, &[sw1, sw2]);

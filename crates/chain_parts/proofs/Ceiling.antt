@@ -6,12 +6,12 @@ use native.Mathlib.Omega.{arith}
 use Rattle.chain_parts.specs.Parts.{ceiling}
 
 module _ (n p k : ℕ) (positive : 0 < p) where
-  pub starts-within : k < ceiling n p → k * p < n
-  starts-within h = omega (arith, (le-div_iff_mul-le {k = p} {x = suc k} {y = n + (p - 1)} positive).0 h, suc-mul k p)
+  pub starts_within : k < ceiling n p → k * p < n
+  starts_within h = omega (arith, (le-div_iff_mul-le {k = p} {x = suc k} {y = n + (p - 1)} positive).0 h, suc-mul k p)
 
-  pub below-ceiling : k * p < n → k < ceiling n p
-  below-ceiling h = (le-div_iff_mul-le {k = p} {x = suc k} {y = n + (p - 1)} positive).1 (omega (arith, suc-mul k p))
+  pub below_ceiling : k * p < n → k < ceiling n p
+  below_ceiling h = (le-div_iff_mul-le {k = p} {x = suc k} {y = n + (p - 1)} positive).1 (omega (arith, suc-mul k p))
 
-  pub ends-with-last : suc k ≡ ceiling n p → n ≤ k * p + p
-  ends-with-last e =
+  pub ends_with_last : suc k ≡ ceiling n p → n ≤ k * p + p
+  ends_with_last e =
       omega (arith, (div-lt_iff_lt-mul {k = p} {x = n + (p - 1)} {y = suc (suc k)} positive).0 (omega arith), suc-mul k p, suc-mul (suc k) p)

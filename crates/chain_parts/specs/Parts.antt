@@ -7,5 +7,5 @@ abbrev pub ceiling : ℕ → ℕ → ℕ
 ceiling n p = (n + (p - 1)) / p
 
 -- the index behind the part that starts at an index and has at most so many bytes
-abbrev pub partEnd : Bytes → ℕ → ℕ → ℕ
-partEnd bytes start most = start + length (take most (drop start bytes))
+abbrev pub part_end : Bytes → ℕ → ℕ → ℕ
+part_end bytes start most = start + length (take most (drop start bytes))

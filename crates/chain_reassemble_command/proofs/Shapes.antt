@@ -9,32 +9,32 @@ use lib.Dec.{eqb, leb}
 use lib.ListN.{length, get_or, get_or-eq_default}
 use Rattle.octets.specs.Bytes.{Bytes}
 use Rattle.octets.proofs.Tests.{both}
-use Rattle.chain_command.specs.Apdu.{lastCla, chainedCla, cla, lc, isChained, is_last, wellFormed}
+use Rattle.chain_command.specs.Apdu.{last_cla, chained_cla, cla, lc, is_chained, is_last, well_formed}
 
-pub short-malformed : (apdu : Bytes) → length apdu < 5 → wellFormed apdu ≡ false
-unfolding wellFormed
-short-malformed apdu h = rw (get_or-eq_default apdu 0 {n = 4} (omega arith))
+pub short_malformed : (apdu : Bytes) → length apdu < 5 → well_formed apdu ≡ false
+unfolding well_formed
+short_malformed apdu h = rw (get_or-eq_default apdu 0 {n = 4} (omega arith))
 
 either : (a b : Bool) → (a || b) ≡ true → (a ≡ true) ⊎ (b ≡ true)
 either true b e = inl refl
 either false b e = inr e
 
-chained-holds : (apdu : Bytes) → isChained apdu ≡ true → 5 + lc apdu ≤ length apdu
-unfolding isChained
-chained-holds apdu e =
-    let right = both (eqb (cla apdu) chainedCla) (eqb (length apdu) (5 + lc apdu)) e in
+chained_holds : (apdu : Bytes) → is_chained apdu ≡ true → 5 + lc apdu ≤ length apdu
+unfolding is_chained
+chained_holds apdu e =
+    let right = both (eqb (cla apdu) chained_cla) (eqb (length apdu) (5 + lc apdu)) e in
     let size = eqb-true (length apdu) (5 + lc apdu) right.1 in
     omega arith
 
-last-holds : (apdu : Bytes) → is_last apdu ≡ true → 5 + lc apdu ≤ length apdu
+last_holds : (apdu : Bytes) → is_last apdu ≡ true → 5 + lc apdu ≤ length apdu
 unfolding is_last
-last-holds apdu e =
-    let head = eqb (cla apdu) lastCla && eqb (length apdu) (6 + lc apdu) in
-    let right = both (eqb (cla apdu) lastCla) (eqb (length apdu) (6 + lc apdu)) (both head (eqb (get_or apdu (5 + lc apdu) 0) 0x00) e).0 in
+last_holds apdu e =
+    let head = eqb (cla apdu) last_cla && eqb (length apdu) (6 + lc apdu) in
+    let right = both (eqb (cla apdu) last_cla) (eqb (length apdu) (6 + lc apdu)) (both head (eqb (get_or apdu (5 + lc apdu) 0) 0x00) e).0 in
     let size = eqb-true (length apdu) (6 + lc apdu) right.1 in
     omega arith
 
 -- it holds its data
-pub holds-data : (apdu : Bytes) → wellFormed apdu ≡ true → 5 + lc apdu ≤ length apdu
-unfolding wellFormed
-holds-data apdu e = ⊎_elim (chained-holds apdu) (last-holds apdu) (either (isChained apdu) (is_last apdu) (both (leb 1 (lc apdu) && leb (lc apdu) 255) (isChained apdu || is_last apdu) e).1)
+pub holds_data : (apdu : Bytes) → well_formed apdu ≡ true → 5 + lc apdu ≤ length apdu
+unfolding well_formed
+holds_data apdu e = ⊎_elim (chained_holds apdu) (last_holds apdu) (either (is_chained apdu) (is_last apdu) (both (leb 1 (lc apdu) && leb (lc apdu) 255) (is_chained apdu || is_last apdu) e).1)

@@ -1,6 +1,6 @@
 // The APDU of a command fragment, as it is read: Lc, and the two exact shapes that are taken (document 01, "The wire").
 ghost use Rattle.std.specs.Prelude.{◌≡◌, ◌≤◌, length};
-ghost use Rattle.chain_command.specs.Apdu.{lc, isChained, is_last, wellFormed};
+ghost use Rattle.chain_command.specs.Apdu.{lc, is_chained, is_last, well_formed};
 
 pub fn lc(apdu: &[u8]) -> usize
     requires { 5 ≤ length apdu.now }
@@ -12,7 +12,7 @@ pub fn lc(apdu: &[u8]) -> usize
 
 pub fn is_chained(apdu: &[u8]) -> bool
     requires { 5 ≤ length apdu.now }
-    ensures { result ≡ isChained apdu.now }
+    ensures { result ≡ is_chained apdu.now }
 {
     let n = lc(apdu);
     if apdu[0] != 0x1C {
@@ -36,7 +36,7 @@ pub fn is_last(apdu: &[u8]) -> bool
 }
 
 pub fn well_formed(apdu: &[u8]) -> bool
-    ensures { result ≡ wellFormed apdu.now }
+    ensures { result ≡ well_formed apdu.now }
 {
     if apdu.len() < 5 {
         return false;

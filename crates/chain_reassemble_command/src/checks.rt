@@ -2,7 +2,7 @@
 ghost use Rattle.std.specs.Prelude.{◌≡◌};
 ghost use Rattle.message_result.specs.Results.{checked};
 ghost use Rattle.chain_command.specs.Apdu.{header};
-ghost use Rattle.chain_command.specs.Reassembly.{possible, continues, reassemblyChecks};
+ghost use Rattle.chain_command.specs.Reassembly.{possible, continues, reassembly_checks};
 
 use crate::apdu::{lc, well_formed};
 use chain_command::CommandChain;
@@ -42,7 +42,7 @@ fn continues(chain: CommandChain, ins: u8, p1: u8, p2: u8) -> bool
 
 // The state is tested before the sum is made, so that the sum fits a usize.
 pub fn reassembly_checks(chain: CommandChain, apdu: &[u8], room: usize) -> Checked
-    ensures { result ≡ checked (reassemblyChecks chain apdu.now room) }
+    ensures { result ≡ checked (reassembly_checks chain apdu.now room) }
 {
     if !well_formed(apdu) {
         return Checked::Refused(Refusal::Malformed);

@@ -4,8 +4,8 @@ mod checks;
 
 ghost use Rattle.std.specs.Prelude.{◌≡◌, ◌+◌, ◌≤◌, length};
 ghost use Rattle.octets.specs.Write.{put};
-ghost use Rattle.chain_command.specs.Apdu.{headerOf, lc, data_of, is_last, header};
-ghost use Rattle.chain_command.specs.Reassembly.{empty, total, taken, reassembleCommand, reassemblyBuffer};
+ghost use Rattle.chain_command.specs.Apdu.{header_of, lc, data_of, is_last, header};
+ghost use Rattle.chain_command.specs.Reassembly.{empty, total, taken, reassemble_command, reassembly_buffer};
 
 use apdu::{is_last, lc};
 use chain_command::{CommandChain, Reassembly, ReassemblyAnswer};
@@ -16,7 +16,7 @@ use octets::put_bytes;
 // The data of a fragment that passed its tests, behind what stands in the caller's buffer.
 fn take_fragment(chain: CommandChain, apdu: &[u8], out: &mut [u8]) -> Reassembly
     requires { (5 + lc apdu.now ≤ length apdu.now) × (total chain apdu.now ≤ length out.old) }
-    ensures result { result ≡ taken (headerOf apdu.now) (total chain apdu.now) (is_last apdu.now) }
+    ensures result { result ≡ taken (header_of apdu.now) (total chain apdu.now) (is_last apdu.now) }
     ensures output { out.new ≡ put out.old chain.len (data_of apdu.now) }
 {
     let len = chain.len;
@@ -27,8 +27,8 @@ fn take_fragment(chain: CommandChain, apdu: &[u8], out: &mut [u8]) -> Reassembly
 
 // One fragment of a command: refusals 7, 14, 4 and 6, and each drops the chain.
 pub fn reassemble_command(chain: CommandChain, apdu: &[u8], out: &mut [u8]) -> Reassembly
-    ensures result { result ≡ reassembleCommand chain apdu.now (length out.old) }
-    ensures output { out.new ≡ reassemblyBuffer chain apdu.now out.old }
+    ensures result { result ≡ reassemble_command chain apdu.now (length out.old) }
+    ensures output { out.new ≡ reassembly_buffer chain apdu.now out.old }
 {
     let empty = empty_chain();
     let checked = reassembly_checks(chain, apdu, out.len());

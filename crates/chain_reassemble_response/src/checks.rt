@@ -1,7 +1,7 @@
 // The tests of a response fragment before it joins the chain, in document 01's order.
 ghost use Rattle.std.specs.Prelude.{◌≡◌, ◌||◌, not, ◌≤◌, leb, length};
 ghost use Rattle.message_result.specs.Results.{checked};
-ghost use Rattle.chain_response.specs.Reassembly.{dataLength, isMore, wellFormed, possible, reassemblyChecks};
+ghost use Rattle.chain_response.specs.Reassembly.{data_length, is_more, well_formed, possible, reassembly_checks};
 
 use chain_response::ResponseChain;
 use message_answer::{MAX_RESPONSE_FIELD, MORE_SW1};
@@ -10,7 +10,7 @@ use refusal::Refusal;
 
 pub fn is_more(bytes: &[u8]) -> bool
     requires { 2 ≤ length bytes.now }
-    ensures { result ≡ isMore bytes.now }
+    ensures { result ≡ is_more bytes.now }
 {
     let n = bytes.len() - 2;
     bytes[n] == MORE_SW1
@@ -19,7 +19,7 @@ pub fn is_more(bytes: &[u8]) -> bool
 // More fragments follow only a fragment that has data.
 fn more_with_data(bytes: &[u8]) -> bool
     requires { 2 ≤ length bytes.now }
-    ensures { result ≡ (not (isMore bytes.now) || leb 1 (dataLength bytes.now)) }
+    ensures { result ≡ (not (is_more bytes.now) || leb 1 (data_length bytes.now)) }
 {
     let n = bytes.len() - 2;
     if is_more(bytes) {
@@ -29,7 +29,7 @@ fn more_with_data(bytes: &[u8]) -> bool
 }
 
 fn well_formed(bytes: &[u8]) -> bool
-    ensures { result ≡ wellFormed bytes.now }
+    ensures { result ≡ well_formed bytes.now }
 {
     if bytes.len() < 2 {
         return false;
@@ -48,7 +48,7 @@ fn possible(chain: ResponseChain) -> bool
 
 // The state is tested before the sum is made, so that the sum fits a usize.
 pub fn reassembly_checks(chain: ResponseChain, bytes: &[u8], room: usize) -> Checked
-    ensures { result ≡ checked (reassemblyChecks chain bytes.now room) }
+    ensures { result ≡ checked (reassembly_checks chain bytes.now room) }
 {
     if !well_formed(bytes) {
         return Checked::Refused(Refusal::Malformed);

@@ -3,7 +3,7 @@ mod checks;
 
 ghost use Rattle.std.specs.Prelude.{◌≡◌, ◌≤◌, length};
 ghost use Rattle.octets.specs.Write.{put};
-ghost use Rattle.chain_response.specs.Reassembly.{data_of, statusOf, isMore, empty, total, taken, reassembleResponse, reassemblyBuffer, getResponse};
+ghost use Rattle.chain_response.specs.Reassembly.{data_of, status_of, is_more, empty, total, taken, reassemble_response, reassembly_buffer, get_response};
 ghost use Rattle.message_answer.specs.Message.{status};
 
 use chain_response::{ResponseChain, ResponseReassembly, ResponseReassemblyAnswer};
@@ -13,8 +13,8 @@ use octets::put_bytes;
 
 // One fragment of a response: refusals 7, 14, 4 and 6, and each drops the chain.
 pub fn reassemble_response(chain: ResponseChain, bytes: &[u8], out: &mut [u8]) -> ResponseReassembly
-    ensures result { result ≡ reassembleResponse chain bytes.now (length out.old) }
-    ensures output { out.new ≡ reassemblyBuffer chain bytes.now out.old }
+    ensures result { result ≡ reassemble_response chain bytes.now (length out.old) }
+    ensures output { out.new ≡ reassembly_buffer chain bytes.now out.old }
 {
     let empty = empty_chain();
     let checked = reassembly_checks(chain, bytes, out.len());
@@ -30,7 +30,7 @@ pub fn reassemble_response(chain: ResponseChain, bytes: &[u8], out: &mut [u8]) -
 // The data of a fragment that passed its tests, behind what stands in the caller's buffer.
 fn take_fragment(chain: ResponseChain, bytes: &[u8], out: &mut [u8]) -> ResponseReassembly
     requires { (2 ≤ length bytes.now) × (total chain bytes.now ≤ length out.old) }
-    ensures result { result ≡ taken (statusOf bytes.now) (total chain bytes.now) (isMore bytes.now) }
+    ensures result { result ≡ taken (status_of bytes.now) (total chain bytes.now) (is_more bytes.now) }
     ensures output { out.new ≡ put out.old chain.len (data_of bytes.now) }
 {
     let len = chain.len;
@@ -66,7 +66,7 @@ fn taken(sw1: u8, sw2: u8, n: usize, more: bool) -> ResponseReassembly
 
 // The GET RESPONSE to send next, with Le as the last fragment's status word gives it.
 pub fn get_response(le: u8) -> [u8; 5]
-    ensures { result ≡ getResponse le }
+    ensures { result ≡ get_response le }
 {
     [0x00, 0xC0, 0x00, 0x00, le]
 }

@@ -10,10 +10,10 @@ use Rattle.octets.specs.Write.{put}
 use Rattle.refusal.specs.Refusal.{number, extra}
 use Rattle.refusal.specs.declared.Refusal.TheVariants.{NotPermitted}
 use Rattle.message_answer.specs.Message.{StatusWord, status}
-use Rattle.message_permission.specs.Permission.{statusPermitted}
+use Rattle.message_permission.specs.Permission.{status_permitted}
 use Rattle.message_answer.specs.Answer.{Answer, refused, gave, require◌else◌⨾◌}
-use Rattle.chain_response.specs.Fragment.{asked, announced, fragmentData, fragmentStatus, next, fragment, fragmentResponse, fragmentAnswer}
-use Rattle.chain_response.specs.Reassembly.{isMore, wellFormed, chain, empty, possible, reassemblyChecks, taken, concluded, reassembleResponse, written, reassemblyBuffer, getResponse}
+use Rattle.chain_response.specs.Fragment.{asked, announced, fragment_data, fragment_status, next, fragment, fragment_response, fragment_answer}
+use Rattle.chain_response.specs.Reassembly.{is_more, well_formed, chain, empty, possible, reassembly_checks, taken, concluded, reassemble_response, written, reassembly_buffer, get_response}
 use Rattle.chain_response.specs.declared.ResponseFragmentAnswer.TheVariants.{Fragment, Refused as NotFragmented}
 use Rattle.chain_response.specs.declared.ResponseReassemblyAnswer.{ResponseReassemblyAnswer}
 use Rattle.chain_response.specs.declared.ResponseReassemblyAnswer.TheVariants.{More, Whole, Refused}
@@ -28,23 +28,23 @@ fragmented (gave bytes) = 0 ∷ length bytes ∷ drop (length bytes - 2) bytes
 ok : StatusWord
 ok = status 0x90 0x00
 
-fragment-answers :
-    fragmented (fragmentResponse (status 0x61 0x00) (zeros 16404) 16404 0x00 0)
-    ∷ fragmented (fragmentResponse ok (zeros 16404) 16404 0x00 0)
-    ∷ fragmented (fragmentResponse ok (zeros 16403) 16403 0x00 0)
-    ∷ fragmented (fragmentResponse ok [] 0 0x00 300)
-    ∷ fragmented (fragmentResponse ok (zeros 16403) 0 0x00 257)
-    ∷ fragmented (fragmentResponse ok (zeros 16403) 0 0x00 258)
-    ∷ fragmented (fragmentResponse ok (zeros 513) 0 0x00 258)
-    ∷ fragmented (fragmentResponse ok (zeros 512) 0 0x00 258)
-    ∷ fragmented (fragmentResponse ok (zeros 511) 0 0x00 258)
-    ∷ fragmented (fragmentResponse ok (zeros 257) 0 0x00 258)
-    ∷ fragmented (fragmentResponse ok (zeros 256) 0 0x00 258)
-    ∷ fragmented (fragmentResponse ok (zeros 256) 0 0xFF 258)
-    ∷ fragmented (fragmentResponse ok (zeros 9) 8 0x05 3)
-    ∷ fragmented (fragmentResponse (status 0x62 0x61) (zeros 9) 0 0x09 11)
-    ∷ fragmented (fragmentResponse ok (zeros 9) 0 0x05 7)
-    ∷ fragmented (fragmentResponse (status 0x61 0x00) (zeros 9) 0 0x05 7)
+fragment_answers :
+    fragmented (fragment_response (status 0x61 0x00) (zeros 16404) 16404 0x00 0)
+    ∷ fragmented (fragment_response ok (zeros 16404) 16404 0x00 0)
+    ∷ fragmented (fragment_response ok (zeros 16403) 16403 0x00 0)
+    ∷ fragmented (fragment_response ok [] 0 0x00 300)
+    ∷ fragmented (fragment_response ok (zeros 16403) 0 0x00 257)
+    ∷ fragmented (fragment_response ok (zeros 16403) 0 0x00 258)
+    ∷ fragmented (fragment_response ok (zeros 513) 0 0x00 258)
+    ∷ fragmented (fragment_response ok (zeros 512) 0 0x00 258)
+    ∷ fragmented (fragment_response ok (zeros 511) 0 0x00 258)
+    ∷ fragmented (fragment_response ok (zeros 257) 0 0x00 258)
+    ∷ fragmented (fragment_response ok (zeros 256) 0 0x00 258)
+    ∷ fragmented (fragment_response ok (zeros 256) 0 0xFF 258)
+    ∷ fragmented (fragment_response ok (zeros 9) 8 0x05 3)
+    ∷ fragmented (fragment_response (status 0x62 0x61) (zeros 9) 0 0x09 11)
+    ∷ fragmented (fragment_response ok (zeros 9) 0 0x05 7)
+    ∷ fragmented (fragment_response (status 0x61 0x00) (zeros 9) 0 0x05 7)
     ∷ []
     ≡ (3 ∷ 0 ∷ [])
     ∷ (4 ∷ 0 ∷ [])
@@ -63,25 +63,25 @@ fragment-answers :
     ∷ (0 ∷ 7 ∷ 0x61 ∷ 0x04 ∷ [])
     ∷ (3 ∷ 0 ∷ [])
     ∷ []
-unfolding fragmented ok fragmentResponse require◌else◌⨾◌ statusPermitted asked announced fragmentData fragmentStatus next fragment
-fragment-answers = refl
+unfolding fragmented ok fragment_response require◌else◌⨾◌ status_permitted asked announced fragment_data fragment_status next fragment
+fragment_answers = refl
 
 -- bytes, and the index of the next fragment, of five bytes by two
-fragment-bytes :
-    fragmentResponse ok (1 ∷ 2 ∷ 3 ∷ 4 ∷ 5 ∷ []) 0 0x02 9
-    ∷ fragmentResponse ok (1 ∷ 2 ∷ 3 ∷ 4 ∷ 5 ∷ []) 2 0x02 9
-    ∷ fragmentResponse ok (1 ∷ 2 ∷ 3 ∷ 4 ∷ 5 ∷ []) 4 0x02 9
+fragment_bytes :
+    fragment_response ok (1 ∷ 2 ∷ 3 ∷ 4 ∷ 5 ∷ []) 0 0x02 9
+    ∷ fragment_response ok (1 ∷ 2 ∷ 3 ∷ 4 ∷ 5 ∷ []) 2 0x02 9
+    ∷ fragment_response ok (1 ∷ 2 ∷ 3 ∷ 4 ∷ 5 ∷ []) 4 0x02 9
     ∷ []
     ≡ gave (1 ∷ 2 ∷ 0x61 ∷ 3 ∷ []) ∷ gave (3 ∷ 4 ∷ 0x61 ∷ 1 ∷ []) ∷ gave (5 ∷ 0x90 ∷ 0x00 ∷ []) ∷ []
-unfolding ok fragmentResponse require◌else◌⨾◌ statusPermitted asked announced fragmentData fragmentStatus next fragment
-fragment-bytes = refl
+unfolding ok fragment_response require◌else◌⨾◌ status_permitted asked announced fragment_data fragment_status next fragment
+fragment_bytes = refl
 
-next-indices : next (1 ∷ 2 ∷ 3 ∷ 4 ∷ 5 ∷ []) 2 0x02 ∷ next (1 ∷ 2 ∷ 3 ∷ 4 ∷ 5 ∷ []) 4 0x02 ∷ [] ≡ 4 ∷ 5 ∷ []
-unfolding next fragmentData asked
-next-indices = refl
+next_indices : next (1 ∷ 2 ∷ 3 ∷ 4 ∷ 5 ∷ []) 2 0x02 ∷ next (1 ∷ 2 ∷ 3 ∷ 4 ∷ 5 ∷ []) 4 0x02 ∷ [] ≡ 4 ∷ 5 ∷ []
+unfolding next fragment_data asked
+next_indices = refl
 
-fragment-given : fragmentAnswer 4 (gave (1 ∷ 2 ∷ 3 ∷ [])) ∷ fragmentAnswer 4 (refused NotPermitted) ∷ [] ≡ Fragment 3 4 ∷ NotFragmented NotPermitted ∷ []
-fragment-given = refl
+fragment_given : fragment_answer 4 (gave (1 ∷ 2 ∷ 3 ∷ [])) ∷ fragment_answer 4 (refused NotPermitted) ∷ [] ≡ Fragment 3 4 ∷ NotFragmented NotPermitted ∷ []
+fragment_given = refl
 
 -- ---- reassembling: the answer's numbers, and the chain
 
@@ -95,22 +95,22 @@ answered r = answer r.answer ++ r.chain.len ∷ []
 
 -- badly formed, also where the chain is impossible: no whole status word; 61 without data; over 256 bytes of data. Then an impossible chain, the limit, the room;
 -- taken, with more to come and whole, without data too
-reassembly-answers :
-    answered (reassembleResponse (chain 16404) [] 0)
-    ∷ answered (reassembleResponse (chain 16404) (0x90 ∷ []) 0)
-    ∷ answered (reassembleResponse (chain 16404) (0x61 ∷ 0x05 ∷ []) 0)
-    ∷ answered (reassembleResponse (chain 16404) (zeros 257 ++ 0x90 ∷ 0x00 ∷ []) 0)
-    ∷ answered (reassembleResponse (chain 16404) (5 ∷ 0x61 ∷ 0x05 ∷ []) 0)
-    ∷ answered (reassembleResponse (chain 16403) (5 ∷ 0x61 ∷ 0x05 ∷ []) 0)
-    ∷ answered (reassembleResponse (chain 16402) (5 ∷ 0x61 ∷ 0x05 ∷ []) 16402)
-    ∷ answered (reassembleResponse (chain 16402) (5 ∷ 0x61 ∷ 0x05 ∷ []) 16403)
-    ∷ answered (reassembleResponse (chain 16402) (5 ∷ 0x90 ∷ 0x05 ∷ []) 16403)
-    ∷ answered (reassembleResponse (chain 16403) (0x6A ∷ 0x61 ∷ []) 16403)
-    ∷ answered (reassembleResponse empty (0x6A ∷ 0x82 ∷ []) 0)
-    ∷ answered (reassembleResponse empty (zeros 256 ++ 0x61 ∷ 0x00 ∷ []) 256)
-    ∷ answered (reassembleResponse (chain 16403) (5 ∷ 0x90 ∷ 0x00 ∷ []) 16404)
-    ∷ answered (reassembleResponse (chain 16402) (5 ∷ 0x90 ∷ 0x00 ∷ []) 16402)
-    ∷ answered (reassembleResponse empty (0x61 ∷ 0x06 ∷ []) 256)
+reassembly_answers :
+    answered (reassemble_response (chain 16404) [] 0)
+    ∷ answered (reassemble_response (chain 16404) (0x90 ∷ []) 0)
+    ∷ answered (reassemble_response (chain 16404) (0x61 ∷ 0x05 ∷ []) 0)
+    ∷ answered (reassemble_response (chain 16404) (zeros 257 ++ 0x90 ∷ 0x00 ∷ []) 0)
+    ∷ answered (reassemble_response (chain 16404) (5 ∷ 0x61 ∷ 0x05 ∷ []) 0)
+    ∷ answered (reassemble_response (chain 16403) (5 ∷ 0x61 ∷ 0x05 ∷ []) 0)
+    ∷ answered (reassemble_response (chain 16402) (5 ∷ 0x61 ∷ 0x05 ∷ []) 16402)
+    ∷ answered (reassemble_response (chain 16402) (5 ∷ 0x61 ∷ 0x05 ∷ []) 16403)
+    ∷ answered (reassemble_response (chain 16402) (5 ∷ 0x90 ∷ 0x05 ∷ []) 16403)
+    ∷ answered (reassemble_response (chain 16403) (0x6A ∷ 0x61 ∷ []) 16403)
+    ∷ answered (reassemble_response empty (0x6A ∷ 0x82 ∷ []) 0)
+    ∷ answered (reassemble_response empty (zeros 256 ++ 0x61 ∷ 0x00 ∷ []) 256)
+    ∷ answered (reassemble_response (chain 16403) (5 ∷ 0x90 ∷ 0x00 ∷ []) 16404)
+    ∷ answered (reassemble_response (chain 16402) (5 ∷ 0x90 ∷ 0x00 ∷ []) 16402)
+    ∷ answered (reassemble_response empty (0x61 ∷ 0x06 ∷ []) 256)
     ∷ []
     ≡ (7 ∷ 0 ∷ 0 ∷ [])
     ∷ (7 ∷ 0 ∷ 0 ∷ [])
@@ -128,22 +128,22 @@ reassembly-answers :
     ∷ (6 ∷ 16403 ∷ 0 ∷ [])
     ∷ (7 ∷ 0 ∷ 0 ∷ [])
     ∷ []
-unfolding answered answer reassembleResponse concluded taken reassemblyChecks require◌else◌⨾◌ possible wellFormed isMore
-reassembly-answers = refl
+unfolding answered answer reassemble_response concluded taken reassembly_checks require◌else◌⨾◌ possible well_formed is_more
+reassembly_answers = refl
 
 -- ---- the caller's buffer: data behind what stands there; at a refusal it stays
 buffers :
-    reassemblyBuffer (chain 2) (5 ∷ 0x61 ∷ 0x01 ∷ []) (7 ∷ 8 ∷ 9 ∷ 6 ∷ [])
-    ∷ reassemblyBuffer empty (5 ∷ 0x90 ∷ 0x00 ∷ []) (7 ∷ 8 ∷ [])
-    ∷ reassemblyBuffer (chain 2) (0x61 ∷ 0x01 ∷ []) (7 ∷ 8 ∷ 9 ∷ 6 ∷ [])
-    ∷ reassemblyBuffer (chain 2) (5 ∷ 0x61 ∷ 0x01 ∷ []) (7 ∷ 8 ∷ [])
+    reassembly_buffer (chain 2) (5 ∷ 0x61 ∷ 0x01 ∷ []) (7 ∷ 8 ∷ 9 ∷ 6 ∷ [])
+    ∷ reassembly_buffer empty (5 ∷ 0x90 ∷ 0x00 ∷ []) (7 ∷ 8 ∷ [])
+    ∷ reassembly_buffer (chain 2) (0x61 ∷ 0x01 ∷ []) (7 ∷ 8 ∷ 9 ∷ 6 ∷ [])
+    ∷ reassembly_buffer (chain 2) (5 ∷ 0x61 ∷ 0x01 ∷ []) (7 ∷ 8 ∷ [])
     ∷ []
     ≡ (7 ∷ 8 ∷ 5 ∷ 6 ∷ []) ∷ (5 ∷ 8 ∷ []) ∷ (7 ∷ 8 ∷ 9 ∷ 6 ∷ []) ∷ (7 ∷ 8 ∷ []) ∷ []
-unfolding reassemblyBuffer written put reassemblyChecks require◌else◌⨾◌ possible wellFormed isMore
+unfolding reassembly_buffer written put reassembly_checks require◌else◌⨾◌ possible well_formed is_more
 buffers = refl
 
 -- ---- GET RESPONSE
 
-get-response : getResponse 0xA3 ∷ getResponse 0x00 ∷ [] ≡ (0x00 ∷ 0xC0 ∷ 0x00 ∷ 0x00 ∷ 0xA3 ∷ []) ∷ (0x00 ∷ 0xC0 ∷ 0x00 ∷ 0x00 ∷ 0x00 ∷ []) ∷ []
-unfolding getResponse
-get-response = refl
+get_response_lem : get_response 0xA3 ∷ get_response 0x00 ∷ [] ≡ (0x00 ∷ 0xC0 ∷ 0x00 ∷ 0x00 ∷ 0xA3 ∷ []) ∷ (0x00 ∷ 0xC0 ∷ 0x00 ∷ 0x00 ∷ 0x00 ∷ []) ∷ []
+unfolding get_response
+get_response_lem = refl

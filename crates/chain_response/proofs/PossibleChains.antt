@@ -11,78 +11,78 @@ use lib.Dec.{leb}
 use Rattle.octets.specs.Bytes.{Bytes}
 use Rattle.octets.specs.Choice.{if◌then◌else◌}
 use Rattle.refusal.specs.declared.Refusal.TheVariants.{TooLong, BufferTooSmall, Malformed, BrokenChain}
-use Rattle.message_answer.specs.Message.{StatusWord, maxResponseField, moreSw1}
+use Rattle.message_answer.specs.Message.{StatusWord, max_response_field, more_sw1}
 use Rattle.message_answer.specs.Answer.{Answer, refused, gave, require◌else◌⨾◌}
-use Rattle.message_answer.proofs.Required.{require-gave}
-use Rattle.chain_response.specs.Reassembly.{statusOf, isMore, wellFormed, chain, possible, total, reassemblyChecks, taken, concluded, reassembleResponse}
+use Rattle.message_answer.proofs.Required.{require_gave}
+use Rattle.chain_response.specs.Reassembly.{status_of, is_more, well_formed, chain, possible, total, reassembly_checks, taken, concluded, reassemble_response}
 use Rattle.chain_response.specs.Chains.{Reached, none, more, ReachedArePossible, PossibleAreReached, OthersAreRefused}
 use Rattle.chain_response.specs.declared.ResponseChain.{ResponseChain}
 use Rattle.chain_response.specs.declared.ResponseReassembly.{ResponseReassembly}
 use Rattle.chain_response.specs.declared.ResponseReassemblyAnswer.TheVariants.{More, Refused}
-use Rattle.chain_response.proofs.WrittenFragment.{taken-answer}
+use Rattle.chain_response.proofs.WrittenFragment.{taken_answer}
 
 -- ---- a fragment leaves a possible chain
 
-possible-up-to : (n : ℕ) → n ≤ maxResponseField → possible (chain n) ≡ true
+possible_up_to : (n : ℕ) → n ≤ max_response_field → possible (chain n) ≡ true
 unfolding possible
-possible-up-to n short = le-leb n maxResponseField short
+possible_up_to n short = le-leb n max_response_field short
 
-taken-possible : (sw : StatusWord) (n : ℕ) (more : Bool) → n ≤ maxResponseField → possible (taken sw n more).chain ≡ true
+taken_possible : (sw : StatusWord) (n : ℕ) (more : Bool) → n ≤ max_response_field → possible (taken sw n more).chain ≡ true
 unfolding taken
-taken-possible sw n true short = possible-up-to n short
-taken-possible sw n false short = possible-up-to 0 (omega arith)
+taken_possible sw n true short = possible_up_to n short
+taken_possible sw n false short = possible_up_to 0 (omega arith)
 
 module _ (c : ResponseChain) (bytes : Bytes) (room : ℕ) where
-  passed-possible : reassemblyChecks c bytes room ≡ gave tt → possible (taken (statusOf bytes) (total c bytes) (isMore bytes)).chain ≡ true
-  unfolding reassemblyChecks
-  passed-possible e =
-      let formed = require-gave (wellFormed bytes) Malformed _ tt e in
-      let led = require-gave (possible c) BrokenChain _ tt formed.1 in
-      let short = require-gave (leb (total c bytes) maxResponseField) TooLong _ tt led.1 in
-      taken-possible (statusOf bytes) (total c bytes) (isMore bytes) (leb-true (total c bytes) maxResponseField short.0)
+  passed_possible : reassembly_checks c bytes room ≡ gave tt → possible (taken (status_of bytes) (total c bytes) (is_more bytes)).chain ≡ true
+  unfolding reassembly_checks
+  passed_possible e =
+      let formed = require_gave (well_formed bytes) Malformed _ tt e in
+      let led = require_gave (possible c) BrokenChain _ tt formed.1 in
+      let short = require_gave (leb (total c bytes) max_response_field) TooLong _ tt led.1 in
+      taken_possible (status_of bytes) (total c bytes) (is_more bytes) (leb-true (total c bytes) max_response_field short.0)
 
-  concluded-possible : (a : Answer (Unit {0})) → reassemblyChecks c bytes room ≡ a → possible (concluded c bytes a).chain ≡ true
+  concluded_possible : (a : Answer (Unit {0})) → reassembly_checks c bytes room ≡ a → possible (concluded c bytes a).chain ≡ true
   unfolding concluded
-  concluded-possible (refused r) e = possible-up-to 0 (omega arith)
-  concluded-possible (gave tt) e = passed-possible e
+  concluded_possible (refused r) e = possible_up_to 0 (omega arith)
+  concluded_possible (gave tt) e = passed_possible e
 
-  pub leaves-possible : possible (reassembleResponse c bytes room).chain ≡ true
-  unfolding reassembleResponse
-  leaves-possible = concluded-possible (reassemblyChecks c bytes room) refl
+  pub leaves_possible : possible (reassemble_response c bytes room).chain ≡ true
+  unfolding reassemble_response
+  leaves_possible = concluded_possible (reassembly_checks c bytes room) refl
 
-pub reached-are-possible : ReachedArePossible
-reached-are-possible c none = possible-up-to 0 (omega arith)
-reached-are-possible c (more d bytes room n le r e) = leaves-possible d bytes room
+pub reached_are_possible : ReachedArePossible
+reached_are_possible c none = possible_up_to 0 (omega arith)
+reached_are_possible c (more d bytes room n le r e) = leaves_possible d bytes room
 
 -- ---- each possible chain is reached
 
-one_byte : (n : ℕ) → suc n ≤ maxResponseField
-    → reassembleResponse (chain n) (0 ∷ moreSw1 ∷ 0x00 ∷ []) (suc n) ≡ record { answer = More (suc n) 0x00; chain = chain (suc n) }
+one_byte : (n : ℕ) → suc n ≤ max_response_field
+    → reassemble_response (chain n) (0 ∷ more_sw1 ∷ 0x00 ∷ []) (suc n) ≡ record { answer = More (suc n) 0x00; chain = chain (suc n) }
 unfolding taken
 one_byte n short =
     let total : n + 1 ≡ suc n = omega arith in
-    taken-answer (chain n) (0 ∷ []) moreSw1 0x00 (possible-up-to n (omega arith)) (λ e. omega arith) (omega arith) (omega arith) (suc n) (omega arith)
+    taken_answer (chain n) (0 ∷ []) more_sw1 0x00 (possible_up_to n (omega arith)) (λ e. omega arith) (omega arith) (omega arith) (suc n) (omega arith)
     ∙ ap (λ (m : ℕ). record { answer = More m 0x00; chain = chain m }) total
 
-reach : (n : ℕ) → n ≤ maxResponseField → Reached (chain n)
+reach : (n : ℕ) → n ≤ max_response_field → Reached (chain n)
 reach zero short = none
 reach (suc n) short =
     subst Reached (ap (λ (x : ResponseReassembly). x.chain) (one_byte n short))
-    (more (chain n) (0 ∷ moreSw1 ∷ 0x00 ∷ []) (suc n) (suc n) 0x00 (reach n (omega arith)) (ap (λ (x : ResponseReassembly). x.answer) (one_byte n short)))
+    (more (chain n) (0 ∷ more_sw1 ∷ 0x00 ∷ []) (suc n) (suc n) 0x00 (reach n (omega arith)) (ap (λ (x : ResponseReassembly). x.answer) (one_byte n short)))
 
-pub possible-are-reached : PossibleAreReached
+pub possible_are_reached : PossibleAreReached
 unfolding possible
-possible-are-reached c led = reach c.len (leb-true c.len maxResponseField led)
+possible_are_reached c led = reach c.len (leb-true c.len max_response_field led)
 
 -- ---- any other is refused
 
-pub others-are-refused : OthersAreRefused
-unfolding reassembleResponse reassemblyChecks require◌else◌⨾◌ concluded
-others-are-refused c bytes room e = go (wellFormed bytes)
+pub others_are_refused : OthersAreRefused
+unfolding reassemble_response reassembly_checks require◌else◌⨾◌ concluded
+others_are_refused c bytes room e = go (well_formed bytes)
   where
     go : (formed : Bool) → (concluded c bytes (require formed else Malformed ⨾
         require possible c else BrokenChain ⨾
-        require leb (total c bytes) maxResponseField else TooLong ⨾
+        require leb (total c bytes) max_response_field else TooLong ⨾
         require leb (total c bytes) room else BufferTooSmall (total c bytes) ⨾
         gave tt)).answer ≡ Refused (if formed then BrokenChain else Malformed)
     go true = rw e

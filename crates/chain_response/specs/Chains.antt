@@ -4,11 +4,11 @@ use Rattle.octets.specs.Bytes.{Bytes, tabulate}
 use Rattle.octets.specs.Choice.{if◌then◌else◌}
 use Rattle.octets.specs.Write.{over}
 use Rattle.refusal.specs.declared.Refusal.TheVariants.{Malformed, BrokenChain}
-use Rattle.message_answer.specs.Message.{StatusWord, moreSw1}
-use Rattle.message_permission.specs.Permission.{statusPermitted}
+use Rattle.message_answer.specs.Message.{StatusWord, more_sw1}
+use Rattle.message_permission.specs.Permission.{status_permitted}
 use Rattle.chain_parts.specs.Parts.{ceiling}
-use Rattle.chain_response.specs.Fragment.{longestField, announced, next, fragment}
-use Rattle.chain_response.specs.Reassembly.{data_of, statusOf, wellFormed, empty, getResponse, possible, reassembleResponse, reassemblyBuffer}
+use Rattle.chain_response.specs.Fragment.{longest_field, announced, next, fragment}
+use Rattle.chain_response.specs.Reassembly.{data_of, status_of, well_formed, empty, get_response, possible, reassemble_response, reassembly_buffer}
 use Rattle.chain_response.specs.declared.ResponseChain.{ResponseChain}
 use Rattle.chain_response.specs.declared.ResponseReassemblyAnswer.{ResponseReassemblyAnswer}
 use Rattle.chain_response.specs.declared.ResponseReassemblyAnswer.TheVariants.{More, Whole, Refused}
@@ -18,14 +18,14 @@ use Rattle.chain_response.specs.declared.ResponseReassemblyAnswer.TheVariants.{M
 -- a well-formed fragment is at most 256 bytes of data, some where more follow, and a status word
 abbrev pub ExactShapes : Type 0
 ExactShapes =
-    (bytes : Bytes) → wellFormed bytes ≡ true
-    → (bytes ≡ data_of bytes ++ (statusOf bytes).sw1 ∷ (statusOf bytes).sw2 ∷ [])
+    (bytes : Bytes) → well_formed bytes ≡ true
+    → (bytes ≡ data_of bytes ++ (status_of bytes).sw1 ∷ (status_of bytes).sw2 ∷ [])
     × (length (data_of bytes) ≤ 256)
-    × ((statusOf bytes).sw1 ≡ moreSw1 → 1 ≤ length (data_of bytes))
+    × ((status_of bytes).sw1 ≡ more_sw1 → 1 ≤ length (data_of bytes))
 
 abbrev pub WrittenAreWellFormed : Type 0
 WrittenAreWellFormed =
-    (d : Bytes) (sw1 sw2 : ℕ) → (sw1 ≡ moreSw1 → 1 ≤ length d) → length d ≤ 256 → wellFormed (d ++ sw1 ∷ sw2 ∷ []) ≡ true
+    (d : Bytes) (sw1 sw2 : ℕ) → (sw1 ≡ more_sw1 → 1 ≤ length d) → length d ≤ 256 → well_formed (d ++ sw1 ∷ sw2 ∷ []) ≡ true
 
 -- ---- a whole response
 
@@ -37,34 +37,34 @@ pub record Reassembled : Type 0 where
   pub held : Bytes
 
 -- Le of the GET RESPONSE that is sent next; none is sent after the whole, or after a refusal
-abbrev pub leAfter : ResponseReassemblyAnswer → ℕ
-leAfter (More n le) = get_or (getResponse le) 4 0
-leAfter (Whole n sw1 sw2) = 0x00
-leAfter (Refused r) = 0x00
+abbrev pub le_after : ResponseReassemblyAnswer → ℕ
+le_after (More n le) = get_or (get_response le) 4 0
+le_after (Whole n sw1 sw2) = 0x00
+le_after (Refused r) = 0x00
 
 -- n requests, the first for le bytes from index at on, each answered by a fragment that is taken with the chain and the buffer that the one before it left
 unfoldable pub requests : StatusWord → Bytes → ℕ → ℕ → ℕ → ResponseChain → Bytes → Reassembled
 requests sw field zero at le c held = record { indices = []; answers = []; chain = c; held = held }
 requests sw field (suc n) at le c held =
-    let first = reassembleResponse c (fragment sw field at le) (length held) in
+    let first = reassemble_response c (fragment sw field at le) (length held) in
     let rest =
-    requests sw field n (next field at le) (leAfter first.answer) first.chain (reassemblyBuffer c (fragment sw field at le) held) in
+    requests sw field n (next field at le) (le_after first.answer) first.chain (reassembly_buffer c (fragment sw field at le) held) in
     record { indices = at ∷ rest.indices; answers = first.answer ∷ rest.answers; chain = rest.chain; held = rest.held }
 
 -- more to come after each fragment but the last, which gives the field's length and the status word
-unfoldable pub answersTo : StatusWord → ℕ → List ResponseReassemblyAnswer
-answersTo sw n =
+unfoldable pub answers_to : StatusWord → ℕ → List ResponseReassemblyAnswer
+answers_to sw n =
     tabulate (ceiling n 256 - 1) (λ k. More (suc k * 256) (announced (n - suc k * 256))) ++ Whole n sw.sw1 sw.sw2 ∷ []
 
 -- "A response of F bytes, F at least 1, asked for in this way is whole after exactly ⌈F/256⌉ pieces": the last of that many, and none before it
 abbrev pub Reassembles : Type 0
 Reassembles =
     (sw : StatusWord) (field held : Bytes)
-    → statusPermitted sw ≡ true → 1 ≤ length field → length field ≤ longestField → length field ≤ length held
+    → status_permitted sw ≡ true → 1 ≤ length field → length field ≤ longest_field → length field ≤ length held
     → requests sw field (ceiling (length field) 256) 0 0x00 empty held
     ≡ record {
       indices = tabulate (ceiling (length field) 256) (λ k. k * 256);
-      answers = answersTo sw (length field);
+      answers = answers_to sw (length field);
       chain = empty;
       held = over held field;
     }
@@ -73,12 +73,12 @@ Reassembles =
 
 pub data Reached : ResponseChain → Type 0 where
   none : Reached empty
-  more : (c : ResponseChain) (bytes : Bytes) (room n le : ℕ) → Reached c → (reassembleResponse c bytes room).answer ≡ More n le
-      → Reached (reassembleResponse c bytes room).chain
+  more : (c : ResponseChain) (bytes : Bytes) (room n le : ℕ) → Reached c → (reassemble_response c bytes room).answer ≡ More n le
+      → Reached (reassemble_response c bytes room).chain
 
 -- every call leaves a possible chain, whatever it was given
 abbrev pub LeavesPossible : Type 0
-LeavesPossible = (c : ResponseChain) (bytes : Bytes) (room : ℕ) → possible (reassembleResponse c bytes room).chain ≡ true
+LeavesPossible = (c : ResponseChain) (bytes : Bytes) (room : ℕ) → possible (reassemble_response c bytes room).chain ≡ true
 
 -- the chains that are reached are the possible ones
 abbrev pub ReachedArePossible : Type 0
@@ -91,4 +91,4 @@ PossibleAreReached = (c : ResponseChain) → possible c ≡ true → Reached c
 abbrev pub OthersAreRefused : Type 0
 OthersAreRefused =
     (c : ResponseChain) (bytes : Bytes) (room : ℕ) → possible c ≡ false
-    → (reassembleResponse c bytes room).answer ≡ Refused (if wellFormed bytes then BrokenChain else Malformed)
+    → (reassemble_response c bytes room).answer ≡ Refused (if well_formed bytes then BrokenChain else Malformed)

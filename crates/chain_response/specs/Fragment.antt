@@ -4,48 +4,48 @@ use Rattle.std.specs.Prelude.{[], ◌∷◌, ◌++◌, ℕ, ◌+◌, ◌-◌, eq
 use Rattle.octets.specs.Bytes.{Bytes}
 use Rattle.octets.specs.Choice.{if◌then◌else◌}
 use Rattle.refusal.specs.declared.Refusal.TheVariants.{NotPermitted, TooLong, BufferTooSmall, BrokenChain}
-use Rattle.message_answer.specs.Message.{StatusWord, moreSw1}
-use Rattle.message_permission.specs.Permission.{statusPermitted}
+use Rattle.message_answer.specs.Message.{StatusWord, more_sw1}
+use Rattle.message_permission.specs.Permission.{status_permitted}
 use Rattle.message_answer.specs.Answer.{Answer, refused, gave, require◌else◌⨾◌}
 use Rattle.chain_response.specs.declared.ResponseFragmentAnswer.{ResponseFragmentAnswer}
 use Rattle.chain_response.specs.declared.ResponseFragmentAnswer.TheVariants.{Fragment, Refused}
 
 -- the longest field that is wrapped; how long a field may be that is read is another limit
-abbrev pub longestField : ℕ
-longestField = 16403
+abbrev pub longest_field : ℕ
+longest_field = 16403
 
 -- how many bytes Le asks for
 unfoldable pub asked : ℕ → ℕ
 asked le = if eqb le 0x00 then 256 else le
 
 -- the data of the fragment from index at on
-unfoldable pub fragmentData : Bytes → ℕ → ℕ → Bytes
-fragmentData field at le = take (asked le) (drop at field)
+unfoldable pub fragment_data : Bytes → ℕ → ℕ → Bytes
+fragment_data field at le = take (asked le) (drop at field)
 
 -- SW2 of "more bytes are available", where n are left
 unfoldable pub announced : ℕ → ℕ
 announced n = if leb n 255 then n else 0x00
 
 -- the status word of a fragment, with n bytes left after it
-unfoldable pub fragmentStatus : StatusWord → ℕ → Bytes
-fragmentStatus sw n = if eqb n 0 then sw.sw1 ∷ sw.sw2 ∷ [] else moreSw1 ∷ announced n ∷ []
+unfoldable pub fragment_status : StatusWord → ℕ → Bytes
+fragment_status sw n = if eqb n 0 then sw.sw1 ∷ sw.sw2 ∷ [] else more_sw1 ∷ announced n ∷ []
 
 -- the index behind it
 unfoldable pub next : Bytes → ℕ → ℕ → ℕ
-next field at le = at + length (fragmentData field at le)
+next field at le = at + length (fragment_data field at le)
 
 unfoldable pub fragment : StatusWord → Bytes → ℕ → ℕ → Bytes
-fragment sw field at le = fragmentData field at le ++ fragmentStatus sw (length field - next field at le)
+fragment sw field at le = fragment_data field at le ++ fragment_status sw (length field - next field at le)
 
-unfoldable pub fragmentResponse : StatusWord → Bytes → ℕ → ℕ → ℕ → Answer Bytes
-fragmentResponse sw field at le room =
-    require statusPermitted sw else NotPermitted ⨾
-    require leb (length field) longestField else TooLong ⨾
+unfoldable pub fragment_response : StatusWord → Bytes → ℕ → ℕ → ℕ → Answer Bytes
+fragment_response sw field at le room =
+    require status_permitted sw else NotPermitted ⨾
+    require leb (length field) longest_field else TooLong ⨾
     require ltb at (length field) else BrokenChain ⨾
     require leb (length (fragment sw field at le)) room else BufferTooSmall (length (fragment sw field at le)) ⨾
     gave (fragment sw field at le)
 
 -- as the function gives it: the fragment stands in the caller's buffer
-abbrev pub fragmentAnswer : ℕ → Answer Bytes → ResponseFragmentAnswer
-fragmentAnswer n (refused r) = Refused r
-fragmentAnswer n (gave bytes) = Fragment (length bytes) n
+abbrev pub fragment_answer : ℕ → Answer Bytes → ResponseFragmentAnswer
+fragment_answer n (refused r) = Refused r
+fragment_answer n (gave bytes) = Fragment (length bytes) n

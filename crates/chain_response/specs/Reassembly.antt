@@ -5,7 +5,7 @@ use Rattle.octets.specs.Bytes.{Bytes}
 use Rattle.octets.specs.Choice.{if◌then◌else◌}
 use Rattle.octets.specs.Write.{put}
 use Rattle.refusal.specs.declared.Refusal.TheVariants.{TooLong, BufferTooSmall, Malformed, BrokenChain}
-use Rattle.message_answer.specs.Message.{StatusWord, status, maxResponseField, moreSw1}
+use Rattle.message_answer.specs.Message.{StatusWord, status, max_response_field, more_sw1}
 use Rattle.message_answer.specs.Answer.{Answer, refused, gave, require◌else◌⨾◌}
 use Rattle.chain_response.specs.declared.ResponseChain.{ResponseChain}
 use Rattle.chain_response.specs.declared.ResponseReassemblyAnswer.TheVariants.{More, Whole, Refused}
@@ -13,22 +13,22 @@ use Rattle.chain_response.specs.declared.ResponseReassembly.{ResponseReassembly}
 
 -- ---- a fragment, read: data, and the status word behind it
 
-abbrev pub dataLength : Bytes → ℕ
-dataLength bytes = length bytes - 2
+abbrev pub data_length : Bytes → ℕ
+data_length bytes = length bytes - 2
 
 abbrev pub data_of : Bytes → Bytes
-data_of bytes = take (dataLength bytes) bytes
+data_of bytes = take (data_length bytes) bytes
 
-abbrev pub statusOf : Bytes → StatusWord
-statusOf bytes = status (get_or bytes (dataLength bytes) 0) (get_or bytes (dataLength bytes + 1) 0)
+abbrev pub status_of : Bytes → StatusWord
+status_of bytes = status (get_or bytes (data_length bytes) 0) (get_or bytes (data_length bytes + 1) 0)
 
 -- whether more fragments follow
-unfoldable pub isMore : Bytes → Bool
-isMore bytes = eqb (statusOf bytes).sw1 moreSw1
+unfoldable pub is_more : Bytes → Bool
+is_more bytes = eqb (status_of bytes).sw1 more_sw1
 
 -- "a piece without a whole status, with 61 and no data, or with over 256 bytes of data, is 7"
-unfoldable pub wellFormed : Bytes → Bool
-wellFormed bytes = leb 2 (length bytes) && (not (isMore bytes) || leb 1 (dataLength bytes)) && leb (dataLength bytes) 256
+unfoldable pub well_formed : Bytes → Bool
+well_formed bytes = leb 2 (length bytes) && (not (is_more bytes) || leb 1 (data_length bytes)) && leb (data_length bytes) 256
 
 -- ---- reassembling
 
@@ -40,17 +40,17 @@ empty = chain 0
 
 -- fragments could have led to it
 unfoldable pub possible : ResponseChain → Bool
-possible c = leb c.len maxResponseField
+possible c = leb c.len max_response_field
 
 -- the bytes of the field with this fragment's
 abbrev pub total : ResponseChain → Bytes → ℕ
-total c bytes = c.len + dataLength bytes
+total c bytes = c.len + data_length bytes
 
-unfoldable pub reassemblyChecks : ResponseChain → Bytes → ℕ → Answer (Unit {0})
-reassemblyChecks c bytes room =
-    require wellFormed bytes else Malformed ⨾
+unfoldable pub reassembly_checks : ResponseChain → Bytes → ℕ → Answer (Unit {0})
+reassembly_checks c bytes room =
+    require well_formed bytes else Malformed ⨾
     require possible c else BrokenChain ⨾
-    require leb (total c bytes) maxResponseField else TooLong ⨾
+    require leb (total c bytes) max_response_field else TooLong ⨾
     require leb (total c bytes) room else BufferTooSmall (total c bytes) ⨾
     gave tt
 
@@ -64,20 +64,20 @@ taken sw n more =
 -- "any refusal drops what was joined"
 unfoldable pub concluded : ResponseChain → Bytes → Answer (Unit {0}) → ResponseReassembly
 concluded c bytes (refused r) = record { answer = Refused r; chain = empty }
-concluded c bytes (gave passed) = taken (statusOf bytes) (total c bytes) (isMore bytes)
+concluded c bytes (gave passed) = taken (status_of bytes) (total c bytes) (is_more bytes)
 
-unfoldable pub reassembleResponse : ResponseChain → Bytes → ℕ → ResponseReassembly
-reassembleResponse c bytes room = concluded c bytes (reassemblyChecks c bytes room)
+unfoldable pub reassemble_response : ResponseChain → Bytes → ℕ → ResponseReassembly
+reassemble_response c bytes room = concluded c bytes (reassembly_checks c bytes room)
 
 -- the caller's buffer: the fragment's data behind what stands there; at a refusal it stays
 unfoldable pub written : ResponseChain → Bytes → Bytes → Answer (Unit {0}) → Bytes
 written c bytes held (refused r) = held
 written c bytes held (gave passed) = put held c.len (data_of bytes)
 
-unfoldable pub reassemblyBuffer : ResponseChain → Bytes → Bytes → Bytes
-reassemblyBuffer c bytes held = written c bytes held (reassemblyChecks c bytes (length held))
+unfoldable pub reassembly_buffer : ResponseChain → Bytes → Bytes → Bytes
+reassembly_buffer c bytes held = written c bytes held (reassembly_checks c bytes (length held))
 
 -- ---- GET RESPONSE
 
-unfoldable pub getResponse : ℕ → Bytes
-getResponse le = 0x00 ∷ 0xC0 ∷ 0x00 ∷ 0x00 ∷ le ∷ []
+unfoldable pub get_response : ℕ → Bytes
+get_response le = 0x00 ∷ 0xC0 ∷ 0x00 ∷ 0x00 ∷ le ∷ []

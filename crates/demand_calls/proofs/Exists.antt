@@ -16,60 +16,60 @@ use Rattle.message_unwrap_response.proofs.unwrap_response.Kinds as unwrap-respon
 use Rattle.message_answer.specs.Message.{Response, CommandGiven}
 use Rattle.message_answer.specs.Answer.{buffer}
 use Rattle.message_protocol.specs.HonestDelivery.{Keyed}
-use Rattle.message_result.specs.Results.{wrapResult, commandResult, responseResult}
-use Rattle.message_wrap_command.specs.WrapCommand.{wrapCommand}
-use Rattle.message_unwrap_command.specs.UnwrapCommand.{unwrapCommand}
-use Rattle.message_wrap_response.specs.WrapResponse.{wrapResponse}
-use Rattle.message_unwrap_response.specs.UnwrapResponse.{unwrapResponse}
+use Rattle.message_result.specs.Results.{wrap_result, command_result, response_result}
+use Rattle.message_wrap_command.specs.WrapCommand.{wrap_command}
+use Rattle.message_unwrap_command.specs.UnwrapCommand.{unwrap_command}
+use Rattle.message_wrap_response.specs.WrapResponse.{wrap_response}
+use Rattle.message_unwrap_response.specs.UnwrapResponse.{unwrap_response}
 use Rattle.demand_calls.specs.Calls.{WrapsCommand, UnwrapsCommand, WrapsResponse, UnwrapsResponse, Closes}
 
-pub closes-runs : (κs : Lfts 0) (args : Dens κs close-session-kinds.ps) → Closes
-closes-runs κs args = record { κs = κs; args = args; result = closed args.0; exit = (args.0, tt); met = refl }
+pub closes_runs : (κs : Lfts 0) (args : Dens κs close-session-kinds.ps) → Closes
+closes_runs κs args = record { κs = κs; args = args; result = closed args.0; exit = (args.0, tt); met = refl }
 
-pub wraps-command-runs : (κs : Lfts 2) (args : Dens κs wrap-command-kinds.ps) → IsBytes args.1.1.1.1.1.0.now → Keyed args.0 → WrapsCommand
-wraps-command-runs κs args b k =
+pub wraps_command_runs : (κs : Lfts 2) (args : Dens κs wrap-command-kinds.ps) → IsBytes args.1.1.1.1.1.0.now → Keyed args.0 → WrapsCommand
+wraps_command_runs κs args b k =
     let out = args.1.1.1.1.1.1.0 in
-    let o = wrapCommand args.0 args.1.0 args.1.1.0 args.1.1.1.0 args.1.1.1.1.0 args.1.1.1.1.1.0.now (length out.now) in
+    let o = wrap_command args.0 args.1.0 args.1.1.0 args.1.1.1.0 args.1.1.1.1.0 args.1.1.1.1.1.0.now (length out.now) in
     record {
       κs = κs;
       args = args;
-      result = wrapResult o;
+      result = wrap_result o;
       exit = (args.0, (args.1.0, (args.1.1.0, (args.1.1.1.0, (args.1.1.1.1.0, (args.1.1.1.1.1.0, (at_last out (buffer (λ (f : Bytes). f) out.now o.answer), tt)))))));
       met = (refl, (refl, (b, k)));
     }
 
-pub unwraps-command-runs : (κs : Lfts 2) (args : Dens κs unwrap-command-kinds.ps) → UnwrapsCommand
-unwraps-command-runs κs args =
+pub unwraps_command_runs : (κs : Lfts 2) (args : Dens κs unwrap-command-kinds.ps) → UnwrapsCommand
+unwraps_command_runs κs args =
     let out = args.1.1.1.1.1.0 in
-    let o = unwrapCommand args.0 args.1.0 args.1.1.0 args.1.1.1.0 args.1.1.1.1.0.now (length out.now) in
+    let o = unwrap_command args.0 args.1.0 args.1.1.0 args.1.1.1.0 args.1.1.1.1.0.now (length out.now) in
     record {
       κs = κs;
       args = args;
-      result = commandResult o;
+      result = command_result o;
       exit = (args.0, (args.1.0, (args.1.1.0, (args.1.1.1.0, (args.1.1.1.1.0, (at_last out (buffer (λ (g : CommandGiven). g.payload) out.now o.answer), tt))))));
       met = (refl, refl);
     }
 
-pub wraps-response-runs : (κs : Lfts 2) (args : Dens κs wrap-response-kinds.ps) → IsBytes args.1.1.1.0.now → Keyed args.0 → WrapsResponse
-wraps-response-runs κs args b k =
+pub wraps_response_runs : (κs : Lfts 2) (args : Dens κs wrap-response-kinds.ps) → IsBytes args.1.1.1.0.now → Keyed args.0 → WrapsResponse
+wraps_response_runs κs args b k =
     let out = args.1.1.1.1.0 in
-    let o = wrapResponse args.0 args.1.0 args.1.1.0 args.1.1.1.0.now (length out.now) in
+    let o = wrap_response args.0 args.1.0 args.1.1.0 args.1.1.1.0.now (length out.now) in
     record {
       κs = κs;
       args = args;
-      result = wrapResult o;
+      result = wrap_result o;
       exit = (args.0, (args.1.0, (args.1.1.0, (args.1.1.1.0, (at_last out (buffer (λ (f : Bytes). f) out.now o.answer), tt)))));
       met = (refl, (refl, (b, k)));
     }
 
-pub unwraps-response-runs : (κs : Lfts 2) (args : Dens κs unwrap-response-kinds.ps) → UnwrapsResponse
-unwraps-response-runs κs args =
+pub unwraps_response_runs : (κs : Lfts 2) (args : Dens κs unwrap-response-kinds.ps) → UnwrapsResponse
+unwraps_response_runs κs args =
     let out = args.1.1.1.1.0 in
-    let o = unwrapResponse args.0 args.1.0 args.1.1.0 args.1.1.1.0.now (length out.now) in
+    let o = unwrap_response args.0 args.1.0 args.1.1.0 args.1.1.1.0.now (length out.now) in
     record {
       κs = κs;
       args = args;
-      result = responseResult o;
+      result = response_result o;
       exit = (args.0, (args.1.0, (args.1.1.0, (args.1.1.1.0, (at_last out (buffer (λ (m : Response). m.payload) out.now o.answer), tt)))));
       met = (refl, refl);
     }

@@ -9,15 +9,15 @@
 use Rattle.std.specs.Prelude.{◌≡◌, ◌⊎◌, List, [], ◌∷◌, map, ℕ, take}
 use Rattle.session_suite.specs.StoredKeys.{Keys}
 use Rattle.session.specs.declared.Opening.TheVariants.{Opened as Done}
-use Rattle.message_ciphers.specs.Aes.{aesCiphers}
-use Rattle.message_protocol.specs.Transcript.{State, sessionAt, moved, entered, start}
+use Rattle.message_ciphers.specs.Aes.{aes_ciphers}
+use Rattle.message_protocol.specs.Transcript.{State, session_at, moved, entered, start}
 use Rattle.message_protocol.specs.Agreement.{Agrees, BreaksIn, Excepted as ExceptedRun}
-use Rattle.demand_calls.specs.Calls.{OpensHost, OpensCard, hostKeys, cardKeys, Event, end, session, call, next, answer}
+use Rattle.demand_calls.specs.Calls.{OpensHost, OpensCard, host_keys, card_keys, Event, end, session, call, next, answer}
 
 module _ (K : Keys) where
   -- after a call: its end has the session that it left, and the transcript has what it was asked and gave
   unfoldable pub after : State → Event → State
-  after st e = moved st (end e) (next e) (entered aesCiphers K st.transcript (call e) (answer e))
+  after st e = moved st (end e) (next e) (entered aes_ciphers K st.transcript (call e) (answer e))
 
   unfoldable pub ran : State → List Event → State
   ran st [] = st
@@ -26,21 +26,21 @@ module _ (K : Keys) where
   -- each call got the session that the call before it at its end left
   abbrev pub Trace : State → List Event → Type 0
   Trace st [] = Unit {0}
-  Trace st (e ∷ es) = (session e ≡ sessionAt st (end e)) × Trace (after st e) es
+  Trace st (e ∷ es) = (session e ≡ session_at st (end e)) × Trace (after st e) es
 
   -- one of the calls was an acceptance under a right MAC that the sender cannot have meant
   abbrev pub Excepted : State → List Event → Type 0
   Excepted st [] = ⊥
-  Excepted st (e ∷ es) = BreaksIn aesCiphers K st.transcript (call e) (answer e) ⊎ Excepted (after st e) es
+  Excepted st (e ∷ es) = BreaksIn aes_ciphers K st.transcript (call e) (answer e) ⊎ Excepted (after st e) es
 
 -- this exception is no wider than that of the definitions, which computed runs hold to what it should be (message_protocol_examples)
 abbrev pub ExceptionNoWider : Type 0
 ExceptionNoWider =
-    (K : Keys) (st : State) (calls : List Event) → Trace K st calls → Excepted K st calls → ExceptedRun aesCiphers K st (map call calls)
+    (K : Keys) (st : State) (calls : List Event) → Trace K st calls → Excepted K st calls → ExceptedRun aes_ciphers K st (map call calls)
 
 abbrev pub Agreement : Type 0
 Agreement =
-    (h : OpensHost) (c : OpensCard) → h.result.answer ≡ Done → c.result.answer ≡ Done → cardKeys c ≡ hostKeys h
-    → let K = hostKeys h in let st = start h.result.session c.result.session in
+    (h : OpensHost) (c : OpensCard) → h.result.answer ≡ Done → c.result.answer ≡ Done → card_keys c ≡ host_keys h
+    → let K = host_keys h in let st = start h.result.session c.result.session in
     (calls : List Event) → Trace K st calls → (n : ℕ)
-    → Agrees aesCiphers K (ran K st (take n calls)).transcript ⊎ Excepted K st (take n calls)
+    → Agrees aes_ciphers K (ran K st (take n calls)).transcript ⊎ Excepted K st (take n calls)

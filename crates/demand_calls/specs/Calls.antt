@@ -22,8 +22,8 @@ use Rattle.session.specs.declared.Session.{Session}
 use Rattle.session.specs.declared.Opened.{Opened}
 use Rattle.message_answer.specs.Message.{Command, Response, CommandGiven}
 use Rattle.message_answer.specs.Answer.{Answer, refused, gave}
-use Rattle.message_protocol.specs.Transcript.{Call, wrapCommand, unwrapCommand, wrapResponse, unwrapResponse, close, Gives}
-use Rattle.capi_values.specs.Values.{given, wrapValues, commandValues, responseValues}
+use Rattle.message_protocol.specs.Transcript.{Call, wrap_command, unwrap_command, wrap_response, unwrap_response, close, Gives}
+use Rattle.capi_values.specs.Values.{given, wrap_values, command_values, response_values}
 use Rattle.capi_values.specs.declared.Values.{Values}
 use Rattle.message_result.specs.declared.WrapAnswer.{WrapAnswer}
 use Rattle.message_result.specs.declared.WrapAnswer.TheVariants.{Wrapped, Refused as NotWrapped}
@@ -41,15 +41,15 @@ use Rattle.message_result.specs.declared.ResponseResult.{ResponseResult}
 abbrev pub OpensHost : Type 0
 OpensHost = Ran 3 open-host-kinds.ps open-host-kinds.r Opened open-host.Learnt
 
-abbrev pub hostKeys : OpensHost → Keys
-hostKeys o = keys o.args.1.0.now o.args.1.1.0.now o.args.1.1.1.0.now
+abbrev pub host_keys : OpensHost → Keys
+host_keys o = keys o.args.1.0.now o.args.1.1.0.now o.args.1.1.1.0.now
 
 -- Session::open_card(suite, sk_enc, sk_mac, sk_rmac)
 abbrev pub OpensCard : Type 0
 OpensCard = Ran 3 open-card-kinds.ps open-card-kinds.r Opened open-card.Learnt
 
-abbrev pub cardKeys : OpensCard → Keys
-cardKeys o = keys o.args.1.0.now o.args.1.1.0.now o.args.1.1.1.0.now
+abbrev pub card_keys : OpensCard → Keys
+card_keys o = keys o.args.1.0.now o.args.1.1.0.now o.args.1.1.1.0.now
 
 -- ---- the five calls
 
@@ -75,26 +75,26 @@ Closes = Ran 0 close-session-kinds.ps close-session-kinds.r Session close-sessio
 
 -- a call, and the end that made it
 pub data Event : Type 0 where
-  wrapsCommand : Side → WrapsCommand → Event
-  unwrapsCommand : Side → UnwrapsCommand → Event
-  wrapsResponse : Side → WrapsResponse → Event
-  unwrapsResponse : Side → UnwrapsResponse → Event
+  wraps_command : Side → WrapsCommand → Event
+  unwraps_command : Side → UnwrapsCommand → Event
+  wraps_response : Side → WrapsResponse → Event
+  unwraps_response : Side → UnwrapsResponse → Event
   closes : Side → Closes → Event
 
 abbrev pub end : Event → Side
-end (wrapsCommand side c) = side
-end (unwrapsCommand side c) = side
-end (wrapsResponse side c) = side
-end (unwrapsResponse side c) = side
+end (wraps_command side c) = side
+end (unwraps_command side c) = side
+end (wraps_response side c) = side
+end (unwraps_response side c) = side
 end (closes side c) = side
 
 -- ---- its arguments
 
 abbrev pub session : Event → Session
-session (wrapsCommand side c) = c.args.0
-session (unwrapsCommand side c) = c.args.0
-session (wrapsResponse side c) = c.args.0
-session (unwrapsResponse side c) = c.args.0
+session (wraps_command side c) = c.args.0
+session (unwraps_command side c) = c.args.0
+session (wraps_response side c) = c.args.0
+session (unwraps_response side c) = c.args.0
 session (closes side c) = c.args.0
 
 -- the message handed to a wrap
@@ -110,64 +110,64 @@ response c =
     record { header = record { sw1 = c.args.1.0; sw2 = c.args.1.1.0 }; payload = c.args.1.1.1.0.now }
 
 -- the caller's buffer, before and after
-abbrev pub bufferBefore : Event → Bytes
-bufferBefore (wrapsCommand side c) = c.args.1.1.1.1.1.1.0.now
-bufferBefore (unwrapsCommand side c) = c.args.1.1.1.1.1.0.now
-bufferBefore (wrapsResponse side c) = c.args.1.1.1.1.0.now
-bufferBefore (unwrapsResponse side c) = c.args.1.1.1.1.0.now
-bufferBefore (closes side c) = []
+abbrev pub buffer_before : Event → Bytes
+buffer_before (wraps_command side c) = c.args.1.1.1.1.1.1.0.now
+buffer_before (unwraps_command side c) = c.args.1.1.1.1.1.0.now
+buffer_before (wraps_response side c) = c.args.1.1.1.1.0.now
+buffer_before (unwraps_response side c) = c.args.1.1.1.1.0.now
+buffer_before (closes side c) = []
 
-abbrev pub bufferAfter : Event → Bytes
-bufferAfter (wrapsCommand side c) = c.exit.1.1.1.1.1.1.0.now
-bufferAfter (unwrapsCommand side c) = c.exit.1.1.1.1.1.0.now
-bufferAfter (wrapsResponse side c) = c.exit.1.1.1.1.0.now
-bufferAfter (unwrapsResponse side c) = c.exit.1.1.1.1.0.now
-bufferAfter (closes side c) = []
+abbrev pub buffer_after : Event → Bytes
+buffer_after (wraps_command side c) = c.exit.1.1.1.1.1.1.0.now
+buffer_after (unwraps_command side c) = c.exit.1.1.1.1.1.0.now
+buffer_after (wraps_response side c) = c.exit.1.1.1.1.0.now
+buffer_after (unwraps_response side c) = c.exit.1.1.1.1.0.now
+buffer_after (closes side c) = []
 
 -- the call as the transcript has it: every argument but the session
 abbrev pub call : Event → Call
-call (wrapsCommand side c) = wrapCommand side (command c) (length (bufferBefore (wrapsCommand side c)))
-call (unwrapsCommand side c) =
-    unwrapCommand side c.args.1.0 c.args.1.1.0 c.args.1.1.1.0 c.args.1.1.1.1.0.now (length (bufferBefore (unwrapsCommand side c)))
-call (wrapsResponse side c) = wrapResponse side (response c) (length (bufferBefore (wrapsResponse side c)))
-call (unwrapsResponse side c) =
-    unwrapResponse side (record { sw1 = c.args.1.0; sw2 = c.args.1.1.0 }) c.args.1.1.1.0.now (length (bufferBefore (unwrapsResponse side c)))
+call (wraps_command side c) = wrap_command side (command c) (length (buffer_before (wraps_command side c)))
+call (unwraps_command side c) =
+    unwrap_command side c.args.1.0 c.args.1.1.0 c.args.1.1.1.0 c.args.1.1.1.1.0.now (length (buffer_before (unwraps_command side c)))
+call (wraps_response side c) = wrap_response side (response c) (length (buffer_before (wraps_response side c)))
+call (unwraps_response side c) =
+    unwrap_response side (record { sw1 = c.args.1.0; sw2 = c.args.1.1.0 }) c.args.1.1.1.0.now (length (buffer_before (unwraps_response side c)))
 call (closes side c) = close side
 
 -- ---- its result
 
 -- the session that it left
 abbrev pub next : Event → Session
-next (wrapsCommand side c) = c.result.session
-next (unwrapsCommand side c) = c.result.session
-next (wrapsResponse side c) = c.result.session
-next (unwrapsResponse side c) = c.result.session
+next (wraps_command side c) = c.result.session
+next (unwraps_command side c) = c.result.session
+next (wraps_response side c) = c.result.session
+next (unwraps_response side c) = c.result.session
 next (closes side c) = c.result
 
 -- what it gave: the number of bytes that it names, from the start of the buffer
-abbrev pub wrapGave : WrapAnswer → Bytes → Answer Bytes
-wrapGave (Wrapped n) out = gave (take n out)
-wrapGave (NotWrapped r) out = refused r
+abbrev pub wrap_gave : WrapAnswer → Bytes → Answer Bytes
+wrap_gave (Wrapped n) out = gave (take n out)
+wrap_gave (NotWrapped r) out = refused r
 
-abbrev pub commandGave : CommandAnswer → Bytes → Answer CommandGiven
-commandGave (CommandAccepted n le) out = gave (record { payload = take n out; le = le })
-commandGave (CommandRefused r) out = refused r
+abbrev pub command_gave : CommandAnswer → Bytes → Answer CommandGiven
+command_gave (CommandAccepted n le) out = gave (record { payload = take n out; le = le })
+command_gave (CommandRefused r) out = refused r
 
-abbrev pub responseGave : ResponseAnswer → Bytes → Answer Response
-responseGave (ResponseAccepted n sw1 sw2) out = gave (record { header = record { sw1 = sw1; sw2 = sw2 }; payload = take n out })
-responseGave (ResponseRefused r) out = refused r
+abbrev pub response_gave : ResponseAnswer → Bytes → Answer Response
+response_gave (ResponseAccepted n sw1 sw2) out = gave (record { header = record { sw1 = sw1; sw2 = sw2 }; payload = take n out })
+response_gave (ResponseRefused r) out = refused r
 
 -- its number and values, as document 01 counts them; a closing always succeeds
 abbrev pub values : Event → Values
-values (wrapsCommand side c) = wrapValues c.result.answer
-values (unwrapsCommand side c) = commandValues c.result.answer
-values (wrapsResponse side c) = wrapValues c.result.answer
-values (unwrapsResponse side c) = responseValues c.result.answer
+values (wraps_command side c) = wrap_values c.result.answer
+values (unwraps_command side c) = command_values c.result.answer
+values (wraps_response side c) = wrap_values c.result.answer
+values (unwraps_response side c) = response_values c.result.answer
 values (closes side c) = given 0 0 0
 
 abbrev pub answer : (e : Event) → Answer (Gives (call e))
-answer (wrapsCommand side c) = wrapGave c.result.answer (bufferAfter (wrapsCommand side c))
-answer (unwrapsCommand side c) = commandGave c.result.answer (bufferAfter (unwrapsCommand side c))
-answer (wrapsResponse side c) = wrapGave c.result.answer (bufferAfter (wrapsResponse side c))
-answer (unwrapsResponse side c) = responseGave c.result.answer (bufferAfter (unwrapsResponse side c))
+answer (wraps_command side c) = wrap_gave c.result.answer (buffer_after (wraps_command side c))
+answer (unwraps_command side c) = command_gave c.result.answer (buffer_after (unwraps_command side c))
+answer (wraps_response side c) = wrap_gave c.result.answer (buffer_after (wraps_response side c))
+answer (unwraps_response side c) = response_gave c.result.answer (buffer_after (unwraps_response side c))
 answer (closes side c) = gave tt

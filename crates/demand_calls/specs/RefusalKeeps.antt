@@ -4,18 +4,18 @@ use Rattle.std.specs.Prelude.{◌≡◌, ◌⊎◌}
 use mathlib.Core.List.{[], ◌∷◌, Memᴰ}
 use Rattle.refusal.specs.Refusal.{number}
 use Rattle.refusal.specs.declared.Refusal.{Refusal}
-use Rattle.session.specs.Session.{noSession}
+use Rattle.session.specs.Session.{no_session}
 use Rattle.session.specs.declared.Side.TheVariants.{Host, Card}
 use Rattle.session.specs.declared.Opening.TheVariants.{Refused}
 use Rattle.message_answer.specs.Answer.{refused, buffer}
 use Rattle.message_protocol.specs.RefusalKeeps.{order, writes, IsClosed}
-use Rattle.capi_values.specs.Values.{refusalValues}
-use Rattle.demand_calls.specs.Calls.{OpensHost, OpensCard, Event, session, bufferBefore, bufferAfter, call, next, values, answer}
+use Rattle.capi_values.specs.Values.{refusal_values}
+use Rattle.demand_calls.specs.Calls.{OpensHost, OpensCard, Event, session, buffer_before, buffer_after, call, next, values, answer}
 
 pub record Keeps (e : Event) (r : Refusal) : Type 0 where
   pub in_order : Memᴰ (number r) (order (call e))
-  pub told : values e ≡ refusalValues r
-  pub output : bufferAfter e ≡ bufferBefore e
+  pub told : values e ≡ refusal_values r
+  pub output : buffer_after e ≡ buffer_before e
   pub closed : (number r ≡ 9) ⊎ (number r ≡ 10) → IsClosed (session e) (next e)
   pub stays : ((number r ≡ 9) ⊎ (number r ≡ 10) → ⊥) → next e ≡ session e
 
@@ -25,13 +25,13 @@ RefusalKeeps = (e : Event) (r : Refusal) → answer e ≡ refused r → Keeps e 
 
 -- rule 2.4: bytes after those that a call writes stay
 abbrev pub RestKeeps : Type 0
-RestKeeps = (e : Event) → bufferAfter e ≡ buffer (writes (call e)) (bufferBefore e) (answer e)
+RestKeeps = (e : Event) → buffer_after e ≡ buffer (writes (call e)) (buffer_before e) (answer e)
 
 -- openings lend no output; a refused one gives no session
 abbrev pub HostOpeningRefuses : Type 0
 HostOpeningRefuses =
-    (o : OpensHost) (r : Refusal) → o.result.answer ≡ Refused r → Memᴰ (number r) (11 ∷ 12 ∷ []) × (o.result.session ≡ noSession Host)
+    (o : OpensHost) (r : Refusal) → o.result.answer ≡ Refused r → Memᴰ (number r) (11 ∷ 12 ∷ []) × (o.result.session ≡ no_session Host)
 
 abbrev pub CardOpeningRefuses : Type 0
 CardOpeningRefuses =
-    (o : OpensCard) (r : Refusal) → o.result.answer ≡ Refused r → Memᴰ (number r) (11 ∷ 12 ∷ []) × (o.result.session ≡ noSession Card)
+    (o : OpensCard) (r : Refusal) → o.result.answer ≡ Refused r → Memᴰ (number r) (11 ∷ 12 ∷ []) × (o.result.session ≡ no_session Card)

@@ -13,7 +13,7 @@ use Rattle.capi_wrap_command.specs.Call as WrapCommand
 use Rattle.capi_unwrap_command.specs.Call as UnwrapCommand
 use Rattle.capi_wrap_response.specs.Call as WrapResponse
 use Rattle.capi_unwrap_response.specs.Call as UnwrapResponse
-use Rattle.demand_capi.specs.Calls.{OpensHost, openHostGiven, OpensCard, openCardGiven, Closes, closeGiven, WrapsCommand, wrapCommandGiven, UnwrapsCommand, unwrapCommandGiven, WrapsResponse, wrapResponseGiven, UnwrapsResponse, unwrapResponseGiven}
+use Rattle.demand_capi.specs.Calls.{OpensHost, open_host_given, OpensCard, open_card_given, Closes, close_given, WrapsCommand, wrap_command_given, UnwrapsCommand, unwrap_command_given, WrapsResponse, wrap_response_given, UnwrapsResponse, unwrap_response_given}
 
 -- a reference to a value; where it points makes no difference
 abbrev to : {X : Type 0} → X → Bor X
@@ -25,7 +25,7 @@ module _ (suite : ℕ) (enc mac rmac session : Bytes) (len : ℕ) (b : KeysOfByt
 
   abbrev pub opens-host : OpensHost
   opens-host =
-      let l = Open.pivsmOpenHost given-opening in
+      let l = Open.pivsm_open_host given-opening in
       record {
         κs = ([], ([], ([], ([], ([], tt)))));
         args = (suite, (to enc, (to mac, (to rmac, (to session, (to len, tt))))));
@@ -36,7 +36,7 @@ module _ (suite : ℕ) (enc mac rmac session : Bytes) (len : ℕ) (b : KeysOfByt
 
   abbrev pub opens-card : OpensCard
   opens-card =
-      let l = Open.pivsmOpenCard given-opening in
+      let l = Open.pivsm_open_card given-opening in
       record {
         κs = ([], ([], ([], ([], ([], tt)))));
         args = (suite, (to enc, (to mac, (to rmac, (to session, (to len, tt))))));
@@ -45,16 +45,16 @@ module _ (suite : ℕ) (enc mac rmac session : Bytes) (len : ℕ) (b : KeysOfByt
         met = (refl, b);
       }
 
-  pub opens-host-given : openHostGiven opens-host ≡ given-opening
-  opens-host-given = refl
+  pub opens_host_given : open_host_given opens-host ≡ given-opening
+  opens_host_given = refl
 
-  pub opens-card-given : openCardGiven opens-card ≡ given-opening
-  opens-card-given = refl
+  pub opens_card_given : open_card_given opens-card ≡ given-opening
+  opens_card_given = refl
 
 module _ (session : Bytes) (len : ℕ) (b : IsBytes session) where
   abbrev pub closes : Closes
   closes =
-      let l = Close.pivsmClose (Close.given session len) in
+      let l = Close.pivsm_close (Close.given session len) in
       record {
         κs = ([], ([], tt));
         args = (to session, (to len, tt));
@@ -63,13 +63,13 @@ module _ (session : Bytes) (len : ℕ) (b : IsBytes session) where
         met = (refl, b);
       }
 
-  pub closes-given : closeGiven closes ≡ Close.given session len
-  closes-given = refl
+  pub closes_given : close_given closes ≡ Close.given session len
+  closes_given = refl
 
   module _ (ins p1 p2 : ℕ) (le : Bool) (payload field : Bytes) (d : IsBytes payload) where
     abbrev pub wraps-command : WrapsCommand
     wraps-command =
-        let l = WrapCommand.pivsmWrapCommand (WrapCommand.given session len ins p1 p2 le payload field) in
+        let l = WrapCommand.pivsm_wrap_command (WrapCommand.given session len ins p1 p2 le payload field) in
         record {
           κs = ([], ([], ([], ([], ([], tt)))));
           args = (to session, (to len, (ins, (p1, (p2, (le, (to payload, (to field, (to 0, tt)))))))));
@@ -78,13 +78,13 @@ module _ (session : Bytes) (len : ℕ) (b : IsBytes session) where
           met = (refl, (b, d));
         }
 
-    pub wraps-command-given : wrapCommandGiven wraps-command ≡ WrapCommand.given session len ins p1 p2 le payload field
-    wraps-command-given = refl
+    pub wraps_command_given : wrap_command_given wraps-command ≡ WrapCommand.given session len ins p1 p2 le payload field
+    wraps_command_given = refl
 
   module _ (ins p1 p2 : ℕ) (field payload : Bytes) where
     abbrev pub unwraps-command : UnwrapsCommand
     unwraps-command =
-        let l = UnwrapCommand.pivsmUnwrapCommand (UnwrapCommand.given session len ins p1 p2 field payload) in
+        let l = UnwrapCommand.pivsm_unwrap_command (UnwrapCommand.given session len ins p1 p2 field payload) in
         record {
           κs = ([], ([], ([], ([], ([], ([], tt))))));
           args = (to session, (to len, (ins, (p1, (p2, (to field, (to payload, (to 0, (to false, tt)))))))));
@@ -93,13 +93,13 @@ module _ (session : Bytes) (len : ℕ) (b : IsBytes session) where
           met = (refl, b);
         }
 
-    pub unwraps-command-given : unwrapCommandGiven unwraps-command ≡ UnwrapCommand.given session len ins p1 p2 field payload
-    unwraps-command-given = refl
+    pub unwraps_command_given : unwrap_command_given unwraps-command ≡ UnwrapCommand.given session len ins p1 p2 field payload
+    unwraps_command_given = refl
 
   module _ (sw : ℕ) (payload field : Bytes) (d : IsBytes payload) where
     abbrev pub wraps-response : WrapsResponse
     wraps-response =
-        let l = WrapResponse.pivsmWrapResponse (WrapResponse.given session len sw payload field) in
+        let l = WrapResponse.pivsm_wrap_response (WrapResponse.given session len sw payload field) in
         record {
           κs = ([], ([], ([], ([], ([], tt)))));
           args = (to session, (to len, (sw, (to payload, (to field, (to 0, tt))))));
@@ -108,13 +108,13 @@ module _ (session : Bytes) (len : ℕ) (b : IsBytes session) where
           met = (refl, (b, d));
         }
 
-    pub wraps-response-given : wrapResponseGiven wraps-response ≡ WrapResponse.given session len sw payload field
-    wraps-response-given = refl
+    pub wraps_response_given : wrap_response_given wraps-response ≡ WrapResponse.given session len sw payload field
+    wraps_response_given = refl
 
   module _ (sw : ℕ) (field payload : Bytes) where
     abbrev pub unwraps-response : UnwrapsResponse
     unwraps-response =
-        let l = UnwrapResponse.pivsmUnwrapResponse (UnwrapResponse.given session len sw field payload) in
+        let l = UnwrapResponse.pivsm_unwrap_response (UnwrapResponse.given session len sw field payload) in
         record {
           κs = ([], ([], ([], ([], ([], ([], tt))))));
           args = (to session, (to len, (sw, (to field, (to payload, (to 0, (to 0, tt)))))));
@@ -123,5 +123,5 @@ module _ (session : Bytes) (len : ℕ) (b : IsBytes session) where
           met = (refl, b);
         }
 
-    pub unwraps-response-given : unwrapResponseGiven unwraps-response ≡ UnwrapResponse.given session len sw field payload
-    unwraps-response-given = refl
+    pub unwraps_response_given : unwrap_response_given unwraps-response ≡ UnwrapResponse.given session len sw field payload
+    unwraps_response_given = refl

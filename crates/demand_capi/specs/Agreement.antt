@@ -11,10 +11,10 @@ use Rattle.session_suite.specs.StoredKeys.{Keys}
 use Rattle.session.specs.Opening.{opening}
 use Rattle.session.specs.declared.Side.{Side}
 use Rattle.session.specs.declared.Side.TheVariants.{Host, Card}
-use Rattle.message_ciphers.specs.Aes.{aesCiphers}
+use Rattle.message_ciphers.specs.Aes.{aes_ciphers}
 use Rattle.message_protocol.specs.Transcript.{Transcript, entered, empty, start as startRun}
 use Rattle.message_protocol.specs.Agreement.{Agrees, BreaksIn, Excepted as ExceptedRun}
-use Rattle.demand_capi.specs.Calls.{OpensHost, OpensCard, openHostGiven, openHostLeft, openCardGiven, openCardLeft, opened, Event, wrapsCommand, unwrapsCommand, wrapsResponse, unwrapsResponse, closes, end, seen, call, answer}
+use Rattle.demand_capi.specs.Calls.{OpensHost, OpensCard, open_host_given, open_host_left, open_card_given, open_card_left, opened, Event, wraps_command, unwraps_command, wraps_response, unwraps_response, closes, end, seen, call, answer}
 
 -- an end: the bytes of its session, and whether a call has closed it
 pub record End : Type 0 where
@@ -40,26 +40,26 @@ pub record HandedOn (x : End) (e : Event) : Type 0 where
   pub len : (seen e).held.len ≡ length x.bytes
 
 -- a closing, a wrong MAC or wrong padding
-abbrev pub closedBy : ℕ → Bool
-closedBy n = eqb n (number BadMac) || eqb n (number BadPadding)
+abbrev pub closed_by : ℕ → Bool
+closed_by n = eqb n (number BadMac) || eqb n (number BadPadding)
 
-abbrev pub isClosing : Event → Bool
-isClosing (wrapsCommand side c) = closedBy c.result
-isClosing (unwrapsCommand side c) = closedBy c.result
-isClosing (wrapsResponse side c) = closedBy c.result
-isClosing (unwrapsResponse side c) = closedBy c.result
-isClosing (closes side c) = true
+abbrev pub is_closing : Event → Bool
+is_closing (wraps_command side c) = closed_by c.result
+is_closing (unwraps_command side c) = closed_by c.result
+is_closing (wraps_response side c) = closed_by c.result
+is_closing (unwraps_response side c) = closed_by c.result
+is_closing (closes side c) = true
 
 -- the bytes of the session that a call leaves to the next one at its end
-abbrev pub leftBytes : Event → Bytes
-leftBytes e = let h = (seen e).heldAfter in take h.len h.bytes
+abbrev pub left_bytes : Event → Bytes
+left_bytes e = let h = (seen e).held_after in take h.len h.bytes
 
 module _ (K : Keys) where
   -- after a call: its end has the bytes that it left, and the transcript has what it was asked and gave
   unfoldable pub after : State → Event → State
   after st e =
-      moved st (end e) (record { bytes = leftBytes e; closed = (at st (end e)).closed || isClosing e })
-      (entered aesCiphers K st.transcript (call e) (answer e))
+      moved st (end e) (record { bytes = left_bytes e; closed = (at st (end e)).closed || is_closing e })
+      (entered aes_ciphers K st.transcript (call e) (answer e))
 
   unfoldable pub ran : State → List Event → State
   ran st [] = st
@@ -73,7 +73,7 @@ module _ (K : Keys) where
   -- one of the calls was an acceptance under a right MAC that the sender cannot have meant
   abbrev pub Excepted : State → List Event → Type 0
   Excepted st [] = ⊥
-  Excepted st (e ∷ es) = BreaksIn aesCiphers K st.transcript (call e) (answer e) ⊎ Excepted (after st e) es
+  Excepted st (e ∷ es) = BreaksIn aes_ciphers K st.transcript (call e) (answer e) ⊎ Excepted (after st e) es
 
   -- no call is answered 16; and 1 only at an end that was closed
   abbrev pub Served : State → List Event → Type 0
@@ -83,36 +83,36 @@ module _ (K : Keys) where
       × ((seen e).number ≡ number SessionClosed → (at st (end e)).closed ≡ true)
       × Served (after st e) es
 
-abbrev pub openEnd : Bytes → End
-openEnd bytes = record { bytes = bytes; closed = false }
+abbrev pub open_end : Bytes → End
+open_end bytes = record { bytes = bytes; closed = false }
 
 abbrev pub start : Bytes → Bytes → State
-start h c = record { host = openEnd h; card = openEnd c; transcript = empty }
+start h c = record { host = open_end h; card = open_end c; transcript = empty }
 
 -- two openings that were not refused, a host's and a card's, with the same keys
 pub record OpenedAlike (h : OpensHost) (c : OpensCard) : Type 0 where
-  pub host : (openHostLeft h).number ≡ 0
-  pub card : (openCardLeft c).number ≡ 0
-  pub keys : (openCardGiven c).keys ≡ (openHostGiven h).keys
+  pub host : (open_host_left h).number ≡ 0
+  pub card : (open_card_left c).number ≡ 0
+  pub keys : (open_card_given c).keys ≡ (open_host_given h).keys
 
 abbrev pub begins : OpensHost → OpensCard → State
-begins h c = start (opened (openHostLeft h)) (opened (openCardLeft c))
+begins h c = start (opened (open_host_left h)) (opened (open_card_left c))
 
 abbrev pub Agreement : Type 0
 Agreement =
     (h : OpensHost) (c : OpensCard) → OpenedAlike h c → (calls : List Event)
-    → let K = (openHostGiven h).keys in let st = begins h c in
+    → let K = (open_host_given h).keys in let st = begins h c in
     Trace K st calls
     → Served K st calls
-    × ((n : ℕ) → Agrees aesCiphers K (ran K st (take n calls)).transcript ⊎ Excepted K st (take n calls))
+    × ((n : ℕ) → Agrees aes_ciphers K (ran K st (take n calls)).transcript ⊎ Excepted K st (take n calls))
 
 -- this exception is no wider than that of the definitions, which computed runs hold to what it should be
 -- (message_protocol_examples)
 abbrev pub ExceptionNoWider : Type 0
 ExceptionNoWider =
     (h : OpensHost) (c : OpensCard) → OpenedAlike h c → (calls : List Event)
-    → let K = (openHostGiven h).keys in let st = begins h c in
+    → let K = (open_host_given h).keys in let st = begins h c in
     Trace K st calls → Excepted K st calls
-    → ExceptedRun aesCiphers K
-    (startRun (opening Host (openHostGiven h).suite K).session (opening Card (openCardGiven c).suite K).session)
+    → ExceptedRun aes_ciphers K
+    (startRun (opening Host (open_host_given h).suite K).session (opening Card (open_card_given c).suite K).session)
     (map call calls)

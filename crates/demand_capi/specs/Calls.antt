@@ -28,8 +28,8 @@ use Rattle.octets.specs.Bytes.{Bytes}
 use Rattle.refusal.specs.declared.Refusal.TheVariants.{BadSession}
 use Rattle.session.specs.declared.Side.{Side}
 use Rattle.message_answer.specs.Answer.{Answer, refused, gave}
-use Rattle.message_protocol.specs.Transcript.{Call, wrapCommand, unwrapCommand, wrapResponse, unwrapResponse, close, Gives}
-use Rattle.capi_values.specs.Values.{statusOf}
+use Rattle.message_protocol.specs.Transcript.{Call, wrap_command, unwrap_command, wrap_response, unwrap_response, close, Gives}
+use Rattle.capi_values.specs.Values.{status_of}
 use Rattle.capi_session.specs.SessionBytes.{Held}
 
 -- ---- openings
@@ -40,21 +40,21 @@ OpensHost = Ran 5 open-host-kinds.ps open-host-kinds.r ℕ open-host.Learnt
 abbrev pub OpensCard : Type 0
 OpensCard = Ran 5 open-card-kinds.ps open-card-kinds.r ℕ open-card.Learnt
 
-abbrev pub openHostGiven : OpensHost → Open.Given
-openHostGiven c =
+abbrev pub open_host_given : OpensHost → Open.Given
+open_host_given c =
     Open.given c.args.0 c.args.1.0.now c.args.1.1.0.now c.args.1.1.1.0.now
     c.args.1.1.1.1.0.now
 
-abbrev pub openHostLeft : OpensHost → Open.Left
-openHostLeft c = Open.left c.result c.exit.1.1.1.1.0.now c.exit.1.1.1.1.1.0.now
+abbrev pub open_host_left : OpensHost → Open.Left
+open_host_left c = Open.left c.result c.exit.1.1.1.1.0.now c.exit.1.1.1.1.1.0.now
 
-abbrev pub openCardGiven : OpensCard → Open.Given
-openCardGiven c =
+abbrev pub open_card_given : OpensCard → Open.Given
+open_card_given c =
     Open.given c.args.0 c.args.1.0.now c.args.1.1.0.now c.args.1.1.1.0.now
     c.args.1.1.1.1.0.now
 
-abbrev pub openCardLeft : OpensCard → Open.Left
-openCardLeft c = Open.left c.result c.exit.1.1.1.1.0.now c.exit.1.1.1.1.1.0.now
+abbrev pub open_card_left : OpensCard → Open.Left
+open_card_left c = Open.left c.result c.exit.1.1.1.1.0.now c.exit.1.1.1.1.1.0.now
 
 -- the bytes of the session that was opened
 abbrev pub opened : Open.Left → Bytes
@@ -65,63 +65,63 @@ opened l = take l.len l.session
 abbrev pub Closes : Type 0
 Closes = Ran 2 close-kinds.ps close-kinds.r ℕ close.Learnt
 
-abbrev pub closeGiven : Closes → Close.Given
-closeGiven c = Close.given c.args.0.now c.args.1.0.now
+abbrev pub close_given : Closes → Close.Given
+close_given c = Close.given c.args.0.now c.args.1.0.now
 
-abbrev pub closeLeft : Closes → Close.Left
-closeLeft c = Close.left c.result c.exit.0.now c.exit.1.0.now
+abbrev pub close_left : Closes → Close.Left
+close_left c = Close.left c.result c.exit.0.now c.exit.1.0.now
 
 abbrev pub WrapsCommand : Type 0
 WrapsCommand = Ran 5 wrap-command-kinds.ps wrap-command-kinds.r ℕ wrap-command.Learnt
 
-abbrev pub wrapCommandGiven : WrapsCommand → WrapCommand.Given
-wrapCommandGiven c =
+abbrev pub wrap_command_given : WrapsCommand → WrapCommand.Given
+wrap_command_given c =
     WrapCommand.given c.args.0.now c.args.1.0.now c.args.1.1.0 c.args.1.1.1.0
     c.args.1.1.1.1.0
     c.args.1.1.1.1.1.0 c.args.1.1.1.1.1.1.0.now c.args.1.1.1.1.1.1.1.0.now
 
-abbrev pub wrapCommandLeft : WrapsCommand → WrapCommand.Left
-wrapCommandLeft c =
+abbrev pub wrap_command_left : WrapsCommand → WrapCommand.Left
+wrap_command_left c =
     WrapCommand.left c.result c.exit.0.now c.exit.1.0.now c.exit.1.1.1.1.1.1.1.0.now
     c.exit.1.1.1.1.1.1.1.1.0.now
 
 abbrev pub UnwrapsCommand : Type 0
 UnwrapsCommand = Ran 6 unwrap-command-kinds.ps unwrap-command-kinds.r ℕ unwrap-command.Learnt
 
-abbrev pub unwrapCommandGiven : UnwrapsCommand → UnwrapCommand.Given
-unwrapCommandGiven c =
+abbrev pub unwrap_command_given : UnwrapsCommand → UnwrapCommand.Given
+unwrap_command_given c =
     UnwrapCommand.given c.args.0.now c.args.1.0.now c.args.1.1.0 c.args.1.1.1.0
     c.args.1.1.1.1.0
     c.args.1.1.1.1.1.0.now c.args.1.1.1.1.1.1.0.now
 
-abbrev pub unwrapCommandLeft : UnwrapsCommand → UnwrapCommand.Left
-unwrapCommandLeft c =
+abbrev pub unwrap_command_left : UnwrapsCommand → UnwrapCommand.Left
+unwrap_command_left c =
     UnwrapCommand.left c.result c.exit.0.now c.exit.1.0.now c.exit.1.1.1.1.1.1.0.now
     c.exit.1.1.1.1.1.1.1.0.now c.exit.1.1.1.1.1.1.1.1.0.now
 
 abbrev pub WrapsResponse : Type 0
 WrapsResponse = Ran 5 wrap-response-kinds.ps wrap-response-kinds.r ℕ wrap-response.Learnt
 
-abbrev pub wrapResponseGiven : WrapsResponse → WrapResponse.Given
-wrapResponseGiven c =
+abbrev pub wrap_response_given : WrapsResponse → WrapResponse.Given
+wrap_response_given c =
     WrapResponse.given c.args.0.now c.args.1.0.now c.args.1.1.0 c.args.1.1.1.0.now
     c.args.1.1.1.1.0.now
 
-abbrev pub wrapResponseLeft : WrapsResponse → WrapResponse.Left
-wrapResponseLeft c =
+abbrev pub wrap_response_left : WrapsResponse → WrapResponse.Left
+wrap_response_left c =
     WrapResponse.left c.result c.exit.0.now c.exit.1.0.now c.exit.1.1.1.1.0.now
     c.exit.1.1.1.1.1.0.now
 
 abbrev pub UnwrapsResponse : Type 0
 UnwrapsResponse = Ran 6 unwrap-response-kinds.ps unwrap-response-kinds.r ℕ unwrap-response.Learnt
 
-abbrev pub unwrapResponseGiven : UnwrapsResponse → UnwrapResponse.Given
-unwrapResponseGiven c =
+abbrev pub unwrap_response_given : UnwrapsResponse → UnwrapResponse.Given
+unwrap_response_given c =
     UnwrapResponse.given c.args.0.now c.args.1.0.now c.args.1.1.0 c.args.1.1.1.0.now
     c.args.1.1.1.1.0.now
 
-abbrev pub unwrapResponseLeft : UnwrapsResponse → UnwrapResponse.Left
-unwrapResponseLeft c =
+abbrev pub unwrap_response_left : UnwrapsResponse → UnwrapResponse.Left
+unwrap_response_left c =
     UnwrapResponse.left c.result c.exit.0.now c.exit.1.0.now c.exit.1.1.1.1.0.now
     c.exit.1.1.1.1.1.0.now c.exit.1.1.1.1.1.1.0.now
 
@@ -129,55 +129,55 @@ unwrapResponseLeft c =
 
 -- a call, and the end that made it
 pub data Event : Type 0 where
-  wrapsCommand : Side → WrapsCommand → Event
-  unwrapsCommand : Side → UnwrapsCommand → Event
-  wrapsResponse : Side → WrapsResponse → Event
-  unwrapsResponse : Side → UnwrapsResponse → Event
+  wraps_command : Side → WrapsCommand → Event
+  unwraps_command : Side → UnwrapsCommand → Event
+  wraps_response : Side → WrapsResponse → Event
+  unwraps_response : Side → UnwrapsResponse → Event
   closes : Side → Closes → Event
 
 abbrev pub end : Event → Side
-end (wrapsCommand side c) = side
-end (unwrapsCommand side c) = side
-end (wrapsResponse side c) = side
-end (unwrapsResponse side c) = side
+end (wraps_command side c) = side
+end (unwraps_command side c) = side
+end (wraps_response side c) = side
+end (unwraps_response side c) = side
 end (closes side c) = side
 
 -- the session as it was handed in and as it was left, and the result
 pub record Seen : Type 0 where
   pub held : Held
-  pub heldAfter : Held
+  pub held_after : Held
   pub number : ℕ
 
 abbrev pub seen : Event → Seen
-seen (wrapsCommand side c) =
-    let l = wrapCommandLeft c in record { held = (wrapCommandGiven c).held; heldAfter = l.held; number = l.number }
-seen (unwrapsCommand side c) =
-    let l = unwrapCommandLeft c in record { held = (unwrapCommandGiven c).held; heldAfter = l.held; number = l.number }
-seen (wrapsResponse side c) =
-    let l = wrapResponseLeft c in record { held = (wrapResponseGiven c).held; heldAfter = l.held; number = l.number }
-seen (unwrapsResponse side c) =
-    let l = unwrapResponseLeft c in record { held = (unwrapResponseGiven c).held; heldAfter = l.held; number = l.number }
+seen (wraps_command side c) =
+    let l = wrap_command_left c in record { held = (wrap_command_given c).held; held_after = l.held; number = l.number }
+seen (unwraps_command side c) =
+    let l = unwrap_command_left c in record { held = (unwrap_command_given c).held; held_after = l.held; number = l.number }
+seen (wraps_response side c) =
+    let l = wrap_response_left c in record { held = (wrap_response_given c).held; held_after = l.held; number = l.number }
+seen (unwraps_response side c) =
+    let l = unwrap_response_left c in record { held = (unwrap_response_given c).held; held_after = l.held; number = l.number }
 seen (closes side c) =
-    let l = closeLeft c in record { held = (closeGiven c).held; heldAfter = l.held; number = l.number }
+    let l = close_left c in record { held = (close_given c).held; held_after = l.held; number = l.number }
 
 -- the call as the transcript has it: every argument but the session
 abbrev pub call : Event → Call
-call (wrapsCommand side c) = let g = wrapCommandGiven c in wrapCommand side g.message (length g.field)
-call (unwrapsCommand side c) =
-    let g = unwrapCommandGiven c in unwrapCommand side g.ins g.p1 g.p2 g.field (length g.payload)
-call (wrapsResponse side c) = let g = wrapResponseGiven c in wrapResponse side g.message (length g.field)
-call (unwrapsResponse side c) =
-    let g = unwrapResponseGiven c in unwrapResponse side g.sw g.field (length g.payload)
+call (wraps_command side c) = let g = wrap_command_given c in wrap_command side g.message (length g.field)
+call (unwraps_command side c) =
+    let g = unwrap_command_given c in unwrap_command side g.ins g.p1 g.p2 g.field (length g.payload)
+call (wraps_response side c) = let g = wrap_response_given c in wrap_response side g.message (length g.field)
+call (unwraps_response side c) =
+    let g = unwrap_response_given c in unwrap_response side g.sw g.field (length g.payload)
 call (closes side c) = close side
 
 -- what it gave, where it was not refused: as many bytes as it says, from the start of the buffer
 abbrev pub given : (e : Event) → Gives (call e)
-given (wrapsCommand side c) = let l = wrapCommandLeft c in take l.written l.field
-given (unwrapsCommand side c) =
-    let l = unwrapCommandLeft c in record { payload = take l.written l.payload; le = l.le }
-given (wrapsResponse side c) = let l = wrapResponseLeft c in take l.written l.field
-given (unwrapsResponse side c) =
-    let l = unwrapResponseLeft c in record { header = statusOf l.status; payload = take l.written l.payload }
+given (wraps_command side c) = let l = wrap_command_left c in take l.written l.field
+given (unwraps_command side c) =
+    let l = unwrap_command_left c in record { payload = take l.written l.payload; le = l.le }
+given (wraps_response side c) = let l = wrap_response_left c in take l.written l.field
+given (unwraps_response side c) =
+    let l = unwrap_response_left c in record { header = status_of l.status; payload = take l.written l.payload }
 given (closes side c) = tt
 
 -- where it was, the number tells why; to the transcript every refusal is the same

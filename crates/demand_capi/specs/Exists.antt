@@ -2,16 +2,16 @@
 use Rattle.std.specs.Prelude.{◌≡◌, List, [], ◌∷◌, ◌++◌, ◌<◌}
 use Rattle.octets.specs.Bytes.{IsBytes}
 use Rattle.session_suite.specs.StoredKeys.{Keys}
-use Rattle.message_protocol.specs.Transcript.{Call, wrapCommand, unwrapCommand, wrapResponse, unwrapResponse, close, side_of}
+use Rattle.message_protocol.specs.Transcript.{Call, wrap_command, unwrap_command, wrap_response, unwrap_response, close, side_of}
 use Rattle.demand_capi.specs.Calls.{Event, call}
 use Rattle.demand_capi.specs.Agreement.{State, at, ran, Trace}
 
 -- arguments of the types that C has: the data of a wrap is bytes, and so is SW2
 abbrev pub Typed : Call → Type 0
-Typed (wrapCommand side m room) = IsBytes m.payload
-Typed (unwrapCommand side ins p1 p2 field room) = Unit {0}
-Typed (wrapResponse side m room) = IsBytes m.payload × (m.header.sw2 < 256)
-Typed (unwrapResponse side sw field room) = sw.sw2 < 256
+Typed (wrap_command side m room) = IsBytes m.payload
+Typed (unwrap_command side ins p1 p2 field room) = Unit {0}
+Typed (wrap_response side m room) = IsBytes m.payload × (m.header.sw2 < 256)
+Typed (unwrap_response side sw field room) = sw.sw2 < 256
 Typed (close side) = Unit {0}
 
 pub record GoesOnWith (K : Keys) (st : State) (es : List Event) (c : Call) : Type 0 where

@@ -9,15 +9,15 @@ use Rattle.refusal.specs.Refusal.{number, size, status}
 use Rattle.refusal.specs.declared.Refusal.{Refusal}
 use Rattle.refusal.specs.declared.Refusal.TheVariants.{BadMac, BadPadding, UnknownSuite, BadKeyLength, BadSession}
 use Rattle.session.specs.declared.Session.{Session}
-use Rattle.session_bytes.specs.Saved.{sessionSize}
+use Rattle.session_bytes.specs.Saved.{session_size}
 use Rattle.session_bytes.specs.declared.Decoding.TheVariants.{Refused as Unread}
-use Rattle.message_ciphers.specs.Aes.{aesCiphers}
+use Rattle.message_ciphers.specs.Aes.{aes_ciphers}
 use Rattle.message_answer.specs.Answer.{Answer, refused}
 use Rattle.message_protocol.specs.RefusalKeeps.{order, IsClosed}
 use Rattle.message_protocol.specs.Transcript.{Gives, does}
-use Rattle.capi_session.specs.SessionBytes.{sessionIn, put_in, onSession}
+use Rattle.capi_session.specs.SessionBytes.{session_in, put_in, on_session}
 use Rattle.capi_open.specs.Call.{Left}
-use Rattle.demand_capi.specs.Calls.{OpensHost, OpensCard, openHostGiven, openHostLeft, openCardGiven, openCardLeft, Event, wrapsCommand, unwrapsCommand, wrapsResponse, unwrapsResponse, closes, wrapCommandGiven, wrapCommandLeft, unwrapCommandGiven, unwrapCommandLeft, wrapResponseGiven, wrapResponseLeft, unwrapResponseGiven, unwrapResponseLeft, seen, call}
+use Rattle.demand_capi.specs.Calls.{OpensHost, OpensCard, open_host_given, open_host_left, open_card_given, open_card_left, Event, wraps_command, unwraps_command, wraps_response, unwraps_response, closes, wrap_command_given, wrap_command_left, unwrap_command_given, unwrap_command_left, wrap_response_given, wrap_response_left, unwrap_response_given, unwrap_response_left, seen, call}
 
 -- the other buffer before and after a call, and the numbers that the call wrote; 0 and false where it writes none
 pub record Output : Type 0 where
@@ -27,31 +27,31 @@ pub record Output : Type 0 where
   pub status : ℕ
   pub le : Bool
 
-abbrev pub outputAs : Bytes → Bytes → ℕ → ℕ → Bool → Output
-outputAs before after written status le =
+abbrev pub output_as : Bytes → Bytes → ℕ → ℕ → Bool → Output
+output_as before after written status le =
     record { before = before; after = after; written = written; status = status; le = le }
 
 abbrev pub output : Event → Output
-output (wrapsCommand side c) =
-    let l = wrapCommandLeft c in outputAs (wrapCommandGiven c).field l.field l.written 0 false
-output (unwrapsCommand side c) =
-    let l = unwrapCommandLeft c in outputAs (unwrapCommandGiven c).payload l.payload l.written 0 l.le
-output (wrapsResponse side c) =
-    let l = wrapResponseLeft c in outputAs (wrapResponseGiven c).field l.field l.written 0 false
-output (unwrapsResponse side c) =
-    let l = unwrapResponseLeft c in
-    outputAs (unwrapResponseGiven c).payload l.payload l.written l.status false
-output (closes side c) = outputAs [] [] 0 0 false
+output (wraps_command side c) =
+    let l = wrap_command_left c in output_as (wrap_command_given c).field l.field l.written 0 false
+output (unwraps_command side c) =
+    let l = unwrap_command_left c in output_as (unwrap_command_given c).payload l.payload l.written 0 l.le
+output (wraps_response side c) =
+    let l = wrap_response_left c in output_as (wrap_response_given c).field l.field l.written 0 false
+output (unwraps_response side c) =
+    let l = unwrap_response_left c in
+    output_as (unwrap_response_given c).payload l.payload l.written l.status false
+output (closes side c) = output_as [] [] 0 0 false
 
 -- what the definition answers at the bytes that were handed in
 abbrev pub answer_of : (e : Event) → Answer (Gives (call e))
-answer_of e = (onSession (seen e).held (λ s. does aesCiphers s (call e))).answer
+answer_of e = (on_session (seen e).held (λ s. does aes_ciphers s (call e))).answer
 
 -- the bytes of the session that was read, closed
 pub record ClosedIn (e : Event) : Type 0 where
   pub session : Session
-  pub is-closed : IsClosed (sessionIn (seen e).held).session session
-  pub held : (seen e).heldAfter ≡ put_in (seen e).held session
+  pub is_closed : IsClosed (session_in (seen e).held).session session
+  pub held : (seen e).held_after ≡ put_in (seen e).held session
 
 abbrev pub Closing : ℕ → Type 0
 Closing n = (n ≡ number BadMac) ⊎ (n ≡ number BadPadding)
@@ -62,12 +62,12 @@ pub record Keeps (e : Event) : Type 0 where
   pub in_order : Memᴰ (seen e).number (number BadSession ∷ order (call e))
   -- the number; length 0 but for the length needed; no status but at 13
   pub number_is : (seen e).number ≡ number refusal
-  pub length-is : (output e).written ≡ size refusal
-  pub status-is : (output e).status ≡ status refusal
+  pub length_is : (output e).written ≡ size refusal
+  pub status_is : (output e).status ≡ status refusal
   pub no_le : (output e).le ≡ false
-  pub buffer-stays : (output e).after ≡ (output e).before
+  pub buffer_stays : (output e).after ≡ (output e).before
   pub closed : Closing (seen e).number → ClosedIn e
-  pub stays : (Closing (seen e).number → ⊥) → (seen e).heldAfter ≡ (seen e).held
+  pub stays : (Closing (seen e).number → ⊥) → (seen e).held_after ≡ (seen e).held
 
 -- every call, with all bytes and all lengths
 abbrev pub RefusalKeeps : Type 0
@@ -76,7 +76,7 @@ RefusalKeeps = (e : Event) → ((seen e).number ≡ 0 → ⊥) → Keeps e
 -- 16 comes before all else: exactly where no session can be read
 abbrev pub SixteenExactly : Type 0
 SixteenExactly =
-    (e : Event) → ((seen e).number ≡ number BadSession) ↔ ((sessionIn (seen e).held).answer ≡ Unread BadSession)
+    (e : Event) → ((seen e).number ≡ number BadSession) ↔ ((session_in (seen e).held).answer ≡ Unread BadSession)
 
 -- an answer that is no refusal keeps the bytes of the output after those that it writes
 abbrev pub RestKeeps : Type 0
@@ -88,13 +88,13 @@ RestKeeps =
 pub record Refuses (before : Bytes) (l : Left) : Type 0 where
   pub in_order : Memᴰ l.number (number UnknownSuite ∷ number BadKeyLength ∷ 6 ∷ [])
   pub no_length : (l.number ≡ 6 → ⊥) → l.len ≡ 0
-  pub needed : l.number ≡ 6 → l.len ≡ sessionSize
+  pub needed : l.number ≡ 6 → l.len ≡ session_size
   pub stays : l.session ≡ before
 
 abbrev pub HostOpeningRefuses : Type 0
 HostOpeningRefuses =
-    (o : OpensHost) → ((openHostLeft o).number ≡ 0 → ⊥) → Refuses (openHostGiven o).session (openHostLeft o)
+    (o : OpensHost) → ((open_host_left o).number ≡ 0 → ⊥) → Refuses (open_host_given o).session (open_host_left o)
 
 abbrev pub CardOpeningRefuses : Type 0
 CardOpeningRefuses =
-    (o : OpensCard) → ((openCardLeft o).number ≡ 0 → ⊥) → Refuses (openCardGiven o).session (openCardLeft o)
+    (o : OpensCard) → ((open_card_left o).number ≡ 0 → ⊥) → Refuses (open_card_given o).session (open_card_left o)

@@ -4,11 +4,11 @@ use mathlib.Core.List.{[]}
 use denote.Ref.{Bor}
 use Rattle.octets.specs.Bytes.{Bytes}
 use Rattle.message_answer.specs.Answer.{buffer}
-use Rattle.chain_command.specs.Fragment.{fragmentAnswer}
-use Rattle.chain_command.specs.Reassembly.{reassemblyBuffer}
-use Rattle.chain_response.specs.Fragment.{next, fragmentAnswer as responseFragmentAnswer}
-use Rattle.chain_response.specs.Reassembly.{chain, reassemblyBuffer as responseBuffer}
-use Rattle.capi_reassemble_command.specs.ChainNumbers.{chainOf}
+use Rattle.chain_command.specs.Fragment.{fragment_answer}
+use Rattle.chain_command.specs.Reassembly.{reassembly_buffer}
+use Rattle.chain_response.specs.Fragment.{next, fragment_answer as responseFragmentAnswer}
+use Rattle.chain_response.specs.Reassembly.{chain, reassembly_buffer as responseBuffer}
+use Rattle.capi_reassemble_command.specs.ChainNumbers.{chain_of}
 use Rattle.capi_fragment_command.specs.Call as FragmentCommand
 use Rattle.capi_reassemble_command.specs.Call as ReassembleCommand
 use Rattle.capi_fragment_response.specs.Call as FragmentResponse
@@ -19,31 +19,31 @@ use Rattle.demand_chaining.specs.Calls.{FragmentsCommand, ReassemblesCommand, Fr
 abbrev pub to : {X : Type 0} → X → Bor X
 to x = record { ref_ptr = (0, 0); now = x }
 
-abbrev pub fragments-command-below : FragmentCommand.Given → FragmentsCommand
-fragments-command-below g =
+abbrev pub fragments_command_below : FragmentCommand.Given → FragmentsCommand
+fragments_command_below g =
     let a = FragmentCommand.fragmented g in
     let h = g.header in
     record {
       κs = ([], ([], tt));
       args = (h.ins, (h.p1, (h.p2, (to g.field, (g.size, (g.number, (to g.apdu, tt)))))));
-      result = fragmentAnswer a;
+      result = fragment_answer a;
       exit = (h.ins, (h.p1, (h.p2, (to g.field, (g.size, (g.number, (to (buffer (λ (b : Bytes). b) g.apdu a), tt)))))));
       met = (refl, refl);
     }
 
-abbrev pub reassembles-command-below : ReassembleCommand.Given → ReassemblesCommand
-reassembles-command-below g =
-    let c = chainOf g.chain in
+abbrev pub reassembles_command_below : ReassembleCommand.Given → ReassemblesCommand
+reassembles_command_below g =
+    let c = chain_of g.chain in
     record {
       κs = ([], ([], tt));
       args = (c, (to g.apdu, (to g.field, tt)));
       result = ReassembleCommand.reassembled c g;
-      exit = (c, (to g.apdu, (to (reassemblyBuffer c g.apdu g.field), tt)));
+      exit = (c, (to g.apdu, (to (reassembly_buffer c g.apdu g.field), tt)));
       met = (refl, refl);
     }
 
-abbrev pub fragments-response-below : FragmentResponse.Given → FragmentsResponse
-fragments-response-below g =
+abbrev pub fragments_response_below : FragmentResponse.Given → FragmentsResponse
+fragments_response_below g =
     let a = FragmentResponse.fragmented g in
     let sw = g.status in
     record {
@@ -54,8 +54,8 @@ fragments-response-below g =
       met = (refl, refl);
     }
 
-abbrev pub reassembles-response-below : ReassembleResponse.Given → ReassemblesResponse
-reassembles-response-below g =
+abbrev pub reassembles_response_below : ReassembleResponse.Given → ReassemblesResponse
+reassembles_response_below g =
     let c = chain g.chain in
     record {
       κs = ([], ([], tt));

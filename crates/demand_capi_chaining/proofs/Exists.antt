@@ -9,13 +9,13 @@ use Rattle.capi_reassemble_command.specs.Call as ReassembleCommand
 use Rattle.capi_fragment_response.specs.Call as FragmentResponse
 use Rattle.capi_reassemble_response.specs.Call as ReassembleResponse
 use Rattle.capi_get_response.specs.Call as GetResponse
-use Rattle.demand_capi_chaining.specs.Calls.{FragmentsCommand, fragmentCommandGiven, ReassemblesCommand, reassembleCommandGiven, FragmentsResponse, fragmentResponseGiven, ReassemblesResponse, reassembleResponseGiven, GetsResponse, getResponseGiven}
+use Rattle.demand_capi_chaining.specs.Calls.{FragmentsCommand, fragment_command_given, ReassemblesCommand, reassemble_command_given, FragmentsResponse, fragment_response_given, ReassemblesResponse, reassemble_response_given, GetsResponse, get_response_given}
 use Rattle.demand_capi_chaining.proofs.Below.{to}
 
 module _ (ins p1 p2 : ℕ) (field : Bytes) (size number : ℕ) (apdu : Bytes) where
   abbrev pub fragments-command : FragmentsCommand
   fragments-command =
-      let l = FragmentCommand.pivsmFragmentCommand (FragmentCommand.given ins p1 p2 field size number apdu) in
+      let l = FragmentCommand.pivsm_fragment_command (FragmentCommand.given ins p1 p2 field size number apdu) in
       record {
         κs = ([], ([], ([], tt)));
         args = (ins, (p1, (p2, (to field, (size, (number, (to apdu, (to 0, tt))))))));
@@ -24,13 +24,13 @@ module _ (ins p1 p2 : ℕ) (field : Bytes) (size number : ℕ) (apdu : Bytes) wh
         met = refl;
       }
 
-  pub fragments-command-given : fragmentCommandGiven fragments-command ≡ FragmentCommand.given ins p1 p2 field size number apdu
-  fragments-command-given = refl
+  pub fragments_command_given : fragment_command_given fragments-command ≡ FragmentCommand.given ins p1 p2 field size number apdu
+  fragments_command_given = refl
 
 module _ (chain : ℕ) (apdu field : Bytes) (b : IsBytes apdu) where
   abbrev pub reassembles-command : ReassemblesCommand
   reassembles-command =
-      let l = ReassembleCommand.pivsmReassembleCommand (ReassembleCommand.given chain apdu field) in
+      let l = ReassembleCommand.pivsm_reassemble_command (ReassembleCommand.given chain apdu field) in
       record {
         κs = ([], ([], ([], ([], ([], ([], ([], ([], tt))))))));
         args = (to chain, (to apdu, (to field, (to 0, (to 0, (to 0, (to 0, (to 0, tt))))))));
@@ -39,12 +39,12 @@ module _ (chain : ℕ) (apdu field : Bytes) (b : IsBytes apdu) where
         met = (refl, b);
       }
 
-  pub reassembles-command-given : reassembleCommandGiven reassembles-command ≡ ReassembleCommand.given chain apdu field
-  reassembles-command-given = refl
+  pub reassembles_command_given : reassemble_command_given reassembles-command ≡ ReassembleCommand.given chain apdu field
+  reassembles_command_given = refl
 
   abbrev pub reassembles-response : ReassemblesResponse
   reassembles-response =
-      let l = ReassembleResponse.pivsmReassembleResponse (ReassembleResponse.given chain apdu field) in
+      let l = ReassembleResponse.pivsm_reassemble_response (ReassembleResponse.given chain apdu field) in
       record {
         κs = ([], ([], ([], ([], ([], tt)))));
         args = (to chain, (to apdu, (to field, (to 0, (to 0, tt)))));
@@ -53,13 +53,13 @@ module _ (chain : ℕ) (apdu field : Bytes) (b : IsBytes apdu) where
         met = (refl, b);
       }
 
-  pub reassembles-response-given : reassembleResponseGiven reassembles-response ≡ ReassembleResponse.given chain apdu field
-  reassembles-response-given = refl
+  pub reassembles_response_given : reassemble_response_given reassembles-response ≡ ReassembleResponse.given chain apdu field
+  reassembles_response_given = refl
 
 module _ (sw : ℕ) (field : Bytes) (at le : ℕ) (apdu : Bytes) where
   abbrev pub fragments-response : FragmentsResponse
   fragments-response =
-      let l = FragmentResponse.pivsmFragmentResponse (FragmentResponse.given sw field at le apdu) in
+      let l = FragmentResponse.pivsm_fragment_response (FragmentResponse.given sw field at le apdu) in
       record {
         κs = ([], ([], ([], ([], tt))));
         args = (sw, (to field, (at, (le, (to apdu, (to 0, (to 0, tt)))))));
@@ -68,13 +68,13 @@ module _ (sw : ℕ) (field : Bytes) (at le : ℕ) (apdu : Bytes) where
         met = refl;
       }
 
-  pub fragments-response-given : fragmentResponseGiven fragments-response ≡ FragmentResponse.given sw field at le apdu
-  fragments-response-given = refl
+  pub fragments_response_given : fragment_response_given fragments-response ≡ FragmentResponse.given sw field at le apdu
+  fragments_response_given = refl
 
 module _ (le : ℕ) (apdu : Bytes) where
   abbrev pub gets-response : GetsResponse
   gets-response =
-      let l = GetResponse.pivsmGetResponse (GetResponse.given le apdu) in
+      let l = GetResponse.pivsm_get_response (GetResponse.given le apdu) in
       record {
         κs = ([], ([], tt));
         args = (le, (to apdu, (to 0, tt)));
@@ -83,5 +83,5 @@ module _ (le : ℕ) (apdu : Bytes) where
         met = refl;
       }
 
-  pub gets-response-given : getResponseGiven gets-response ≡ GetResponse.given le apdu
-  gets-response-given = refl
+  pub gets_response_given : get_response_given gets-response ≡ GetResponse.given le apdu
+  gets_response_given = refl

@@ -1,31 +1,31 @@
 -- Each call that ran left what the definition of its name gives: the arguments stand in the places of their names.
 use mathlib.Core.Path.{◌≡◌}
 use Rattle.octets.specs.Bytes.{IsBytes}
-use Rattle.capi_fragment_command.specs.Call.{pivsmFragmentCommand}
-use Rattle.capi_reassemble_command.specs.Call.{pivsmReassembleCommand}
-use Rattle.capi_fragment_response.specs.Call.{pivsmFragmentResponse}
-use Rattle.capi_reassemble_response.specs.Call.{pivsmReassembleResponse}
-use Rattle.capi_get_response.specs.Call.{pivsmGetResponse}
-use Rattle.demand_capi_chaining.specs.Calls.{FragmentsCommand, fragmentCommandGiven, fragmentCommandLeft, ReassemblesCommand, reassembleCommandGiven, reassembleCommandLeft, FragmentsResponse, fragmentResponseGiven, fragmentResponseLeft, ReassemblesResponse, reassembleResponseGiven, reassembleResponseLeft, GetsResponse, getResponseGiven, getResponseLeft}
+use Rattle.capi_fragment_command.specs.Call.{pivsm_fragment_command}
+use Rattle.capi_reassemble_command.specs.Call.{pivsm_reassemble_command}
+use Rattle.capi_fragment_response.specs.Call.{pivsm_fragment_response}
+use Rattle.capi_reassemble_response.specs.Call.{pivsm_reassemble_response}
+use Rattle.capi_get_response.specs.Call.{pivsm_get_response}
+use Rattle.demand_capi_chaining.specs.Calls.{FragmentsCommand, fragment_command_given, fragment_command_left, ReassemblesCommand, reassemble_command_given, reassemble_command_left, FragmentsResponse, fragment_response_given, fragment_response_left, ReassemblesResponse, reassemble_response_given, reassemble_response_left, GetsResponse, get_response_given, get_response_left}
 
-pub fragment-command-named : (c : FragmentsCommand) → fragmentCommandLeft c ≡ pivsmFragmentCommand (fragmentCommandGiven c)
-fragment-command-named c = c.met
+pub fragment_command_named : (c : FragmentsCommand) → fragment_command_left c ≡ pivsm_fragment_command (fragment_command_given c)
+fragment_command_named c = c.met
 
-pub reassemble-command-named : (c : ReassemblesCommand) → reassembleCommandLeft c ≡ pivsmReassembleCommand (reassembleCommandGiven c)
-reassemble-command-named c = c.met.0
+pub reassemble_command_named : (c : ReassemblesCommand) → reassemble_command_left c ≡ pivsm_reassemble_command (reassemble_command_given c)
+reassemble_command_named c = c.met.0
 
-pub fragment-response-named : (c : FragmentsResponse) → fragmentResponseLeft c ≡ pivsmFragmentResponse (fragmentResponseGiven c)
-fragment-response-named c = c.met
+pub fragment_response_named : (c : FragmentsResponse) → fragment_response_left c ≡ pivsm_fragment_response (fragment_response_given c)
+fragment_response_named c = c.met
 
-pub reassemble-response-named : (c : ReassemblesResponse) → reassembleResponseLeft c ≡ pivsmReassembleResponse (reassembleResponseGiven c)
-reassemble-response-named c = c.met.0
+pub reassemble_response_named : (c : ReassemblesResponse) → reassemble_response_left c ≡ pivsm_reassemble_response (reassemble_response_given c)
+reassemble_response_named c = c.met.0
 
-pub get-response-named : (c : GetsResponse) → getResponseLeft c ≡ pivsmGetResponse (getResponseGiven c)
-get-response-named c = c.met
+pub get_response_named : (c : GetsResponse) → get_response_left c ≡ pivsm_get_response (get_response_given c)
+get_response_named c = c.met
 
 -- what the types say of the APDUs
-pub reassemble-command-bytes : (c : ReassemblesCommand) → IsBytes (reassembleCommandGiven c).apdu
-reassemble-command-bytes c = c.met.1
+pub reassemble_command_bytes : (c : ReassemblesCommand) → IsBytes (reassemble_command_given c).apdu
+reassemble_command_bytes c = c.met.1
 
-pub reassemble-response-bytes : (c : ReassemblesResponse) → IsBytes (reassembleResponseGiven c).apdu
-reassemble-response-bytes c = c.met.1
+pub reassemble_response_bytes : (c : ReassemblesResponse) → IsBytes (reassemble_response_given c).apdu
+reassemble_response_bytes c = c.met.1

@@ -12,7 +12,7 @@ use Rattle.capi_fragment_response.proofs.pivsm_fragment_response.Reads as fragme
 use Rattle.capi_fragment_response.proofs.pivsm_fragment_response.Kinds as fragment-response-kinds
 use Rattle.capi_reassemble_response.proofs.pivsm_reassemble_response.Reads as reassemble-response
 use Rattle.capi_reassemble_response.proofs.pivsm_reassemble_response.Kinds as reassemble-response-kinds
-use Rattle.capi_get_response.proofs.pivsm_get_response.Reads as get-response
+use Rattle.capi_get_response.proofs.pivsm_get_response.Reads as get_response_lem
 use Rattle.capi_get_response.proofs.pivsm_get_response.Kinds as get-response-kinds
 use Rattle.capi_fragment_command.specs.Call as FragmentCommand
 use Rattle.capi_reassemble_command.specs.Call as ReassembleCommand
@@ -23,24 +23,24 @@ use Rattle.capi_get_response.specs.Call as GetResponse
 abbrev pub FragmentsCommand : Type 0
 FragmentsCommand = Ran 3 fragment-command-kinds.ps fragment-command-kinds.r ℕ fragment-command.Learnt
 
-abbrev pub fragmentCommandGiven : FragmentsCommand → FragmentCommand.Given
-fragmentCommandGiven c =
+abbrev pub fragment_command_given : FragmentsCommand → FragmentCommand.Given
+fragment_command_given c =
     FragmentCommand.given c.args.0 c.args.1.0 c.args.1.1.0 c.args.1.1.1.0.now
     c.args.1.1.1.1.0 c.args.1.1.1.1.1.0 c.args.1.1.1.1.1.1.0.now
 
-abbrev pub fragmentCommandLeft : FragmentsCommand → FragmentCommand.Left
-fragmentCommandLeft c =
+abbrev pub fragment_command_left : FragmentsCommand → FragmentCommand.Left
+fragment_command_left c =
     FragmentCommand.left c.result c.exit.1.1.1.1.1.1.0.now c.exit.1.1.1.1.1.1.1.0.now
 
 abbrev pub ReassemblesCommand : Type 0
 ReassemblesCommand = Ran 8 reassemble-command-kinds.ps reassemble-command-kinds.r ℕ reassemble-command.Learnt
 
-abbrev pub reassembleCommandGiven : ReassemblesCommand → ReassembleCommand.Given
-reassembleCommandGiven c =
+abbrev pub reassemble_command_given : ReassemblesCommand → ReassembleCommand.Given
+reassemble_command_given c =
     ReassembleCommand.given c.args.0.now c.args.1.0.now c.args.1.1.0.now
 
-abbrev pub reassembleCommandLeft : ReassemblesCommand → ReassembleCommand.Left
-reassembleCommandLeft c =
+abbrev pub reassemble_command_left : ReassemblesCommand → ReassembleCommand.Left
+reassemble_command_left c =
     ReassembleCommand.left c.result c.exit.0.now c.exit.1.1.0.now c.exit.1.1.1.0.now
     c.exit.1.1.1.1.0.now c.exit.1.1.1.1.1.0.now c.exit.1.1.1.1.1.1.0.now
     c.exit.1.1.1.1.1.1.1.0.now
@@ -48,33 +48,33 @@ reassembleCommandLeft c =
 abbrev pub FragmentsResponse : Type 0
 FragmentsResponse = Ran 4 fragment-response-kinds.ps fragment-response-kinds.r ℕ fragment-response.Learnt
 
-abbrev pub fragmentResponseGiven : FragmentsResponse → FragmentResponse.Given
-fragmentResponseGiven c =
+abbrev pub fragment_response_given : FragmentsResponse → FragmentResponse.Given
+fragment_response_given c =
     FragmentResponse.given c.args.0 c.args.1.0.now c.args.1.1.0 c.args.1.1.1.0
     c.args.1.1.1.1.0.now
 
-abbrev pub fragmentResponseLeft : FragmentsResponse → FragmentResponse.Left
-fragmentResponseLeft c =
+abbrev pub fragment_response_left : FragmentsResponse → FragmentResponse.Left
+fragment_response_left c =
     FragmentResponse.left c.result c.exit.1.1.1.1.0.now c.exit.1.1.1.1.1.0.now
     c.exit.1.1.1.1.1.1.0.now
 
 abbrev pub ReassemblesResponse : Type 0
 ReassemblesResponse = Ran 5 reassemble-response-kinds.ps reassemble-response-kinds.r ℕ reassemble-response.Learnt
 
-abbrev pub reassembleResponseGiven : ReassemblesResponse → ReassembleResponse.Given
-reassembleResponseGiven c =
+abbrev pub reassemble_response_given : ReassemblesResponse → ReassembleResponse.Given
+reassemble_response_given c =
     ReassembleResponse.given c.args.0.now c.args.1.0.now c.args.1.1.0.now
 
-abbrev pub reassembleResponseLeft : ReassemblesResponse → ReassembleResponse.Left
-reassembleResponseLeft c =
+abbrev pub reassemble_response_left : ReassemblesResponse → ReassembleResponse.Left
+reassemble_response_left c =
     ReassembleResponse.left c.result c.exit.0.now c.exit.1.1.0.now c.exit.1.1.1.0.now
     c.exit.1.1.1.1.0.now
 
 abbrev pub GetsResponse : Type 0
-GetsResponse = Ran 2 get-response-kinds.ps get-response-kinds.r ℕ get-response.Learnt
+GetsResponse = Ran 2 get-response-kinds.ps get-response-kinds.r ℕ get_response_lem.Learnt
 
-abbrev pub getResponseGiven : GetsResponse → GetResponse.Given
-getResponseGiven c = GetResponse.given c.args.0 c.args.1.0.now
+abbrev pub get_response_given : GetsResponse → GetResponse.Given
+get_response_given c = GetResponse.given c.args.0 c.args.1.0.now
 
-abbrev pub getResponseLeft : GetsResponse → GetResponse.Left
-getResponseLeft c = GetResponse.left c.result c.exit.1.0.now c.exit.1.1.0.now
+abbrev pub get_response_left : GetsResponse → GetResponse.Left
+get_response_left c = GetResponse.left c.result c.exit.1.0.now c.exit.1.1.0.now

@@ -14,39 +14,39 @@ use Rattle.chain_reassemble_command.proofs.reassemble_command.Kinds as reassembl
 use Rattle.chain_fragment_response.proofs.fragment_response.Kinds as fragment-response-kinds
 use Rattle.chain_reassemble_response.proofs.reassemble_response.Kinds as reassemble-response-kinds
 use Rattle.chain_command.specs.Apdu.{header}
-use Rattle.chain_command.specs.Fragment.{fragmentCommand, fragmentAnswer}
-use Rattle.chain_command.specs.Reassembly.{reassembleCommand, reassemblyBuffer}
-use Rattle.chain_response.specs.Fragment.{next, fragmentResponse, fragmentAnswer as responseFragmentAnswer}
-use Rattle.chain_response.specs.Reassembly.{reassembleResponse, reassemblyBuffer as responseBuffer}
+use Rattle.chain_command.specs.Fragment.{fragment_command, fragment_answer}
+use Rattle.chain_command.specs.Reassembly.{reassemble_command, reassembly_buffer}
+use Rattle.chain_response.specs.Fragment.{next, fragment_response, fragment_answer as responseFragmentAnswer}
+use Rattle.chain_response.specs.Reassembly.{reassemble_response, reassembly_buffer as responseBuffer}
 use Rattle.demand_chaining.specs.Calls.{FragmentsCommand, ReassemblesCommand, FragmentsResponse, ReassemblesResponse}
 
-pub fragments-command-runs : (κs : Lfts 2) (args : Dens κs fragment-command-kinds.ps) → FragmentsCommand
-fragments-command-runs κs args =
+pub fragments_command_runs : (κs : Lfts 2) (args : Dens κs fragment-command-kinds.ps) → FragmentsCommand
+fragments_command_runs κs args =
     let out = args.1.1.1.1.1.1.0 in
-    let a = fragmentCommand (header args.0 args.1.0 args.1.1.0) args.1.1.1.0.now args.1.1.1.1.0 args.1.1.1.1.1.0 (length out.now) in
+    let a = fragment_command (header args.0 args.1.0 args.1.1.0) args.1.1.1.0.now args.1.1.1.1.0 args.1.1.1.1.1.0 (length out.now) in
     record {
       κs = κs;
       args = args;
-      result = fragmentAnswer a;
+      result = fragment_answer a;
       exit = (args.0, (args.1.0, (args.1.1.0, (args.1.1.1.0, (args.1.1.1.1.0, (args.1.1.1.1.1.0, (at_last out (buffer (λ (b : Bytes). b) out.now a), tt)))))));
       met = (refl, refl);
     }
 
-pub reassembles-command-runs : (κs : Lfts 2) (args : Dens κs reassemble-command-kinds.ps) → ReassemblesCommand
-reassembles-command-runs κs args =
+pub reassembles_command_runs : (κs : Lfts 2) (args : Dens κs reassemble-command-kinds.ps) → ReassemblesCommand
+reassembles_command_runs κs args =
     let out = args.1.1.0 in
     record {
       κs = κs;
       args = args;
-      result = reassembleCommand args.0 args.1.0.now (length out.now);
-      exit = (args.0, (args.1.0, (at_last out (reassemblyBuffer args.0 args.1.0.now out.now), tt)));
+      result = reassemble_command args.0 args.1.0.now (length out.now);
+      exit = (args.0, (args.1.0, (at_last out (reassembly_buffer args.0 args.1.0.now out.now), tt)));
       met = (refl, refl);
     }
 
-pub fragments-response-runs : (κs : Lfts 2) (args : Dens κs fragment-response-kinds.ps) → FragmentsResponse
-fragments-response-runs κs args =
+pub fragments_response_runs : (κs : Lfts 2) (args : Dens κs fragment-response-kinds.ps) → FragmentsResponse
+fragments_response_runs κs args =
     let out = args.1.1.1.1.1.0 in
-    let a = fragmentResponse (status args.0 args.1.0) args.1.1.0.now args.1.1.1.0 args.1.1.1.1.0 (length out.now) in
+    let a = fragment_response (status args.0 args.1.0) args.1.1.0.now args.1.1.1.0 args.1.1.1.1.0 (length out.now) in
     record {
       κs = κs;
       args = args;
@@ -55,13 +55,13 @@ fragments-response-runs κs args =
       met = (refl, refl);
     }
 
-pub reassembles-response-runs : (κs : Lfts 2) (args : Dens κs reassemble-response-kinds.ps) → ReassemblesResponse
-reassembles-response-runs κs args =
+pub reassembles_response_runs : (κs : Lfts 2) (args : Dens κs reassemble-response-kinds.ps) → ReassemblesResponse
+reassembles_response_runs κs args =
     let out = args.1.1.0 in
     record {
       κs = κs;
       args = args;
-      result = reassembleResponse args.0 args.1.0.now (length out.now);
+      result = reassemble_response args.0 args.1.0.now (length out.now);
       exit = (args.0, (args.1.0, (at_last out (responseBuffer args.0 args.1.0.now out.now), tt)));
       met = (refl, refl);
     }

@@ -11,9 +11,9 @@ abbrev pub last_of : {A : Type 0} → A → List A → A
 last_of a [] = a
 last_of a (b ∷ bs) = last_of b bs
 
-pub last-appended : {A : Type 0} (a b : A) (before : List A) → last_of a (before ++ b ∷ []) ≡ b
-last-appended a b [] = refl
-last-appended a b (c ∷ before) = last-appended c b before
+pub last_appended : {A : Type 0} (a b : A) (before : List A) → last_of a (before ++ b ∷ []) ≡ b
+last_appended a b [] = refl
+last_appended a b (c ∷ before) = last_appended c b before
 
 pub start : (xs ys : Bytes) → take (length ys) (over xs ys) ≡ ys
 unfolding over

@@ -6,35 +6,35 @@ use Rattle.demand_chaining.specs.ResponseChaining.{ReassemblesResponses}
 use Rattle.demand_chaining.specs.ChainedCommand.{DeliversChainedCommands}
 use Rattle.demand_chaining.specs.ChainedResponse.{DeliversChainedResponses}
 use Rattle.demand_chaining.specs.HonestExchanges.{HonestExchanges}
-use Rattle.demand_chaining.proofs.RefusalKept.{refusal-keeps}
-use Rattle.demand_chaining.proofs.RestKept.{rest-keeps}
-use Rattle.demand_chaining.proofs.CommandChained.{reassembles-commands}
-use Rattle.demand_chaining.proofs.ResponseChained.{reassembles-responses}
-use Rattle.demand_chaining.proofs.CommandArrived.{delivers-chained-commands}
-use Rattle.demand_chaining.proofs.ResponseArrived.{delivers-chained-responses}
-use Rattle.demand_chaining.proofs.ExchangesArrived.{honest-exchanges}
+use Rattle.demand_chaining.proofs.RefusalKept.{refusal_keeps}
+use Rattle.demand_chaining.proofs.RestKept.{rest_keeps}
+use Rattle.demand_chaining.proofs.CommandChained.{reassembles_commands}
+use Rattle.demand_chaining.proofs.ResponseChained.{reassembles_responses}
+use Rattle.demand_chaining.proofs.CommandArrived.{delivers_chained_commands}
+use Rattle.demand_chaining.proofs.ResponseArrived.{delivers_chained_responses}
+use Rattle.demand_chaining.proofs.ExchangesArrived.{honest_exchanges}
 
 -- demand 1: a refusal changes no byte of the caller's buffer, and drops the chain
 pub demand1 : RefusalKeeps
-demand1 = refusal-keeps
+demand1 = refusal_keeps
 
-pub demand1-rest : RestKeeps
-demand1-rest = rest-keeps
+pub demand1_rest : RestKeeps
+demand1_rest = rest_keeps
 
 -- demand 2: fields come back whole
-pub demand2-command-fields : ReassemblesCommands
-demand2-command-fields = reassembles-commands
+pub demand2_command_fields : ReassemblesCommands
+demand2_command_fields = reassembles_commands
 
-pub demand2-response-fields : ReassemblesResponses
-demand2-response-fields = reassembles-responses
+pub demand2_response_fields : ReassemblesResponses
+demand2_response_fields = reassembles_responses
 
 -- messages that are carried in fragments arrive
-pub demand2-commands : DeliversChainedCommands
-demand2-commands = delivers-chained-commands
+pub demand2_commands : DeliversChainedCommands
+demand2_commands = delivers_chained_commands
 
-pub demand2-responses : DeliversChainedResponses
-demand2-responses = delivers-chained-responses
+pub demand2_responses : DeliversChainedResponses
+demand2_responses = delivers_chained_responses
 
 -- and so do those of every list of honest exchanges
-pub demand2-exchanges : HonestExchanges
-demand2-exchanges = honest-exchanges
+pub demand2_exchanges : HonestExchanges
+demand2_exchanges = honest_exchanges

@@ -40,86 +40,86 @@ ReassemblesResponse = Ran 2 reassemble-response-kinds.ps reassemble-response-kin
 
 -- ---- the arguments, and the caller's buffer before and after
 
-abbrev pub headerGiven : FragmentsCommand → Header
-headerGiven f = header f.args.0 f.args.1.0 f.args.1.1.0
+abbrev pub header_given : FragmentsCommand → Header
+header_given f = header f.args.0 f.args.1.0 f.args.1.1.0
 
-abbrev pub fieldGiven : FragmentsCommand → Bytes
-fieldGiven f = f.args.1.1.1.0.now
+abbrev pub field_given : FragmentsCommand → Bytes
+field_given f = f.args.1.1.1.0.now
 
-abbrev pub sizeAsked : FragmentsCommand → ℕ
-sizeAsked f = f.args.1.1.1.1.0
+abbrev pub size_asked : FragmentsCommand → ℕ
+size_asked f = f.args.1.1.1.1.0
 
-abbrev pub numberAsked : FragmentsCommand → ℕ
-numberAsked f = f.args.1.1.1.1.1.0
+abbrev pub number_asked : FragmentsCommand → ℕ
+number_asked f = f.args.1.1.1.1.1.0
 
-abbrev pub fragmentBefore : FragmentsCommand → Bytes
-fragmentBefore f = f.args.1.1.1.1.1.1.0.now
+abbrev pub fragment_before : FragmentsCommand → Bytes
+fragment_before f = f.args.1.1.1.1.1.1.0.now
 
-abbrev pub fragmentAfter : FragmentsCommand → Bytes
-fragmentAfter f = f.exit.1.1.1.1.1.1.0.now
+abbrev pub fragment_after : FragmentsCommand → Bytes
+fragment_after f = f.exit.1.1.1.1.1.1.0.now
 
-abbrev pub chainGiven : ReassemblesCommand → CommandChain
-chainGiven r = r.args.0
+abbrev pub chain_given : ReassemblesCommand → CommandChain
+chain_given r = r.args.0
 
-abbrev pub apduGiven : ReassemblesCommand → Bytes
-apduGiven r = r.args.1.0.now
+abbrev pub apdu_given : ReassemblesCommand → Bytes
+apdu_given r = r.args.1.0.now
 
-abbrev pub fieldBefore : ReassemblesCommand → Bytes
-fieldBefore r = r.args.1.1.0.now
+abbrev pub field_before : ReassemblesCommand → Bytes
+field_before r = r.args.1.1.0.now
 
-abbrev pub fieldAfter : ReassemblesCommand → Bytes
-fieldAfter r = r.exit.1.1.0.now
+abbrev pub field_after : ReassemblesCommand → Bytes
+field_after r = r.exit.1.1.0.now
 
 -- ---- what a call gave
 
 -- the APDU: the number of bytes that the result names, from the start of the buffer
-abbrev pub apduIn : FragmentAnswer → Bytes → Bytes
-apduIn (Fragment n) out = take n out
-apduIn (NotFragmented r) out = []
+abbrev pub apdu_in : FragmentAnswer → Bytes → Bytes
+apdu_in (Fragment n) out = take n out
+apdu_in (NotFragmented r) out = []
 
 abbrev pub apdu : FragmentsCommand → Bytes
-apdu f = apduIn f.result (fragmentAfter f)
+apdu f = apdu_in f.result (fragment_after f)
 
 -- ---- the same of a response
 
-abbrev pub statusGiven : FragmentsResponse → StatusWord
-statusGiven f = status f.args.0 f.args.1.0
+abbrev pub status_given : FragmentsResponse → StatusWord
+status_given f = status f.args.0 f.args.1.0
 
-abbrev pub responseFieldGiven : FragmentsResponse → Bytes
-responseFieldGiven f = f.args.1.1.0.now
+abbrev pub response_field_given : FragmentsResponse → Bytes
+response_field_given f = f.args.1.1.0.now
 
-abbrev pub indexAsked : FragmentsResponse → ℕ
-indexAsked f = f.args.1.1.1.0
+abbrev pub index_asked : FragmentsResponse → ℕ
+index_asked f = f.args.1.1.1.0
 
-abbrev pub leAsked : FragmentsResponse → ℕ
-leAsked f = f.args.1.1.1.1.0
+abbrev pub le_asked : FragmentsResponse → ℕ
+le_asked f = f.args.1.1.1.1.0
 
-abbrev pub responseFragmentBefore : FragmentsResponse → Bytes
-responseFragmentBefore f = f.args.1.1.1.1.1.0.now
+abbrev pub response_fragment_before : FragmentsResponse → Bytes
+response_fragment_before f = f.args.1.1.1.1.1.0.now
 
-abbrev pub responseFragmentAfter : FragmentsResponse → Bytes
-responseFragmentAfter f = f.exit.1.1.1.1.1.0.now
+abbrev pub response_fragment_after : FragmentsResponse → Bytes
+response_fragment_after f = f.exit.1.1.1.1.1.0.now
 
-abbrev pub responseChainGiven : ReassemblesResponse → ResponseChain
-responseChainGiven r = r.args.0
+abbrev pub response_chain_given : ReassemblesResponse → ResponseChain
+response_chain_given r = r.args.0
 
-abbrev pub bytesGiven : ReassemblesResponse → Bytes
-bytesGiven r = r.args.1.0.now
+abbrev pub bytes_given : ReassemblesResponse → Bytes
+bytes_given r = r.args.1.0.now
 
-abbrev pub responseFieldBefore : ReassemblesResponse → Bytes
-responseFieldBefore r = r.args.1.1.0.now
+abbrev pub response_field_before : ReassemblesResponse → Bytes
+response_field_before r = r.args.1.1.0.now
 
-abbrev pub responseFieldAfter : ReassemblesResponse → Bytes
-responseFieldAfter r = r.exit.1.1.0.now
+abbrev pub response_field_after : ReassemblesResponse → Bytes
+response_field_after r = r.exit.1.1.0.now
 
-abbrev pub bytesIn : ResponseFragmentAnswer → Bytes → Bytes
-bytesIn (ResponseFragment n next) out = take n out
-bytesIn (ResponseNotFragmented r) out = []
+abbrev pub bytes_in : ResponseFragmentAnswer → Bytes → Bytes
+bytes_in (ResponseFragment n next) out = take n out
+bytes_in (ResponseNotFragmented r) out = []
 
 abbrev pub bytes : FragmentsResponse → Bytes
-bytes f = bytesIn f.result (responseFragmentAfter f)
+bytes f = bytes_in f.result (response_fragment_after f)
 
 -- the index that it gave for the next fragment
-abbrev pub nextIn : ResponseFragmentAnswer → ℕ
-nextIn (ResponseFragment n next) = next
-nextIn (ResponseNotFragmented r) = 0
+abbrev pub next_in : ResponseFragmentAnswer → ℕ
+next_in (ResponseFragment n next) = next
+next_in (ResponseNotFragmented r) = 0

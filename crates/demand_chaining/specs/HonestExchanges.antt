@@ -4,12 +4,12 @@ use Rattle.octets.specs.Bytes.{Bytes}
 use Rattle.session.specs.declared.Side.TheVariants.{Host, Card}
 use Rattle.session.specs.declared.Opening.TheVariants.{Opened as Done}
 use Rattle.session.specs.declared.Session.{Session}
-use Rattle.message_answer.specs.Message.{commandLimit}
-use Rattle.demand_calls.specs.Calls.{OpensHost, OpensCard, hostKeys, cardKeys, WrapsCommand, UnwrapsCommand, WrapsResponse, UnwrapsResponse, wrapsCommand, unwrapsCommand, wrapsResponse, unwrapsResponse, session, command, response, next}
+use Rattle.message_answer.specs.Message.{command_limit}
+use Rattle.demand_calls.specs.Calls.{OpensHost, OpensCard, host_keys, card_keys, WrapsCommand, UnwrapsCommand, WrapsResponse, UnwrapsResponse, wraps_command, unwraps_command, wraps_response, unwraps_response, session, command, response, next}
 use Rattle.demand_chaining.specs.Calls.{FragmentsCommand, ReassemblesCommand, FragmentsResponse, ReassemblesResponse}
 use Rattle.demand_chaining.specs.CommandChaining.{CommandReassembled}
 use Rattle.demand_chaining.specs.ResponseChaining.{ResponseReassembled}
-use Rattle.demand_chaining.specs.ChainedCommand.{field_of, headerOf, Sendable as CommandSendable, CarriesCommand, CommandArrives}
+use Rattle.demand_chaining.specs.ChainedCommand.{field_of, header_of, Sendable as CommandSendable, CarriesCommand, CommandArrives}
 use Rattle.demand_chaining.specs.ChainedResponse.{field_of as responseFieldOf, Sendable as ResponseSendable, CarriesResponse, ResponseArrives}
 
 -- the calls of an exchange: a command to the card, in fragments of that size, and its response to the host; each end reassembles in a buffer
@@ -17,36 +17,36 @@ pub record Exchange : Type 0 where
   pub wrap : WrapsCommand
   pub size : ℕ
   pub fragments : List FragmentsCommand
-  pub cardHeld : Bytes
+  pub card_held : Bytes
   pub reassembled : List ReassemblesCommand
   pub unwrap : UnwrapsCommand
-  pub wrapResponse : WrapsResponse
-  pub responseFragments : List FragmentsResponse
-  pub hostHeld : Bytes
-  pub responseReassembled : List ReassemblesResponse
-  pub unwrapResponse : UnwrapsResponse
+  pub wrap_response : WrapsResponse
+  pub response_fragments : List FragmentsResponse
+  pub host_held : Bytes
+  pub response_reassembled : List ReassemblesResponse
+  pub unwrap_response : UnwrapsResponse
 
 -- each call got the session that the call before it at its end left, and what the other end sent; the messages may be sent, with room for them
 pub record Honest (h c : Session) (e : Exchange) : Type 0 where
-  pub host : session (wrapsCommand Host e.wrap) ≡ h
-  pub card : session (unwrapsCommand Card e.unwrap) ≡ c
-  pub command-sendable : CommandSendable e.wrap e.unwrap
-  pub command-carried : CarriesCommand e.wrap e.size e.cardHeld e.fragments e.reassembled e.unwrap
-  pub host-then : session (unwrapsResponse Host e.unwrapResponse) ≡ next (wrapsCommand Host e.wrap)
-  pub card-then : session (wrapsResponse Card e.wrapResponse) ≡ next (unwrapsCommand Card e.unwrap)
-  pub response-sendable : ResponseSendable e.wrapResponse e.unwrapResponse
-  pub response-carried : CarriesResponse e.wrapResponse e.hostHeld e.responseFragments e.responseReassembled e.unwrapResponse
+  pub host : session (wraps_command Host e.wrap) ≡ h
+  pub card : session (unwraps_command Card e.unwrap) ≡ c
+  pub command_sendable : CommandSendable e.wrap e.unwrap
+  pub command_carried : CarriesCommand e.wrap e.size e.card_held e.fragments e.reassembled e.unwrap
+  pub host_then : session (unwraps_response Host e.unwrap_response) ≡ next (wraps_command Host e.wrap)
+  pub card_then : session (wraps_response Card e.wrap_response) ≡ next (unwraps_command Card e.unwrap)
+  pub response_sendable : ResponseSendable e.wrap_response e.unwrap_response
+  pub response_carried : CarriesResponse e.wrap_response e.host_held e.response_fragments e.response_reassembled e.unwrap_response
 
 abbrev pub AllHonest : Session → Session → List Exchange → Type 0
 AllHonest h c [] = Unit {0}
-AllHonest h c (e ∷ es) = Honest h c e × AllHonest (next (unwrapsResponse Host e.unwrapResponse)) (next (wrapsResponse Card e.wrapResponse)) es
+AllHonest h c (e ∷ es) = Honest h c e × AllHonest (next (unwraps_response Host e.unwrap_response)) (next (wraps_response Card e.wrap_response)) es
 
 -- both fields were reassembled, and both messages arrived
 pub record Succeeds (e : Exchange) : Type 0 where
-  pub command-whole : CommandReassembled (headerOf (command e.wrap).header) (field_of e.wrap) e.size e.cardHeld e.reassembled
-  pub command-arrives : CommandArrives e.wrap e.unwrap
-  pub response-whole : ResponseReassembled (response e.wrapResponse).header (responseFieldOf e.wrapResponse) e.hostHeld e.responseReassembled
-  pub response-arrives : ResponseArrives e.wrapResponse e.unwrapResponse
+  pub command_whole : CommandReassembled (header_of (command e.wrap).header) (field_of e.wrap) e.size e.card_held e.reassembled
+  pub command_arrives : CommandArrives e.wrap e.unwrap
+  pub response_whole : ResponseReassembled (response e.wrap_response).header (responseFieldOf e.wrap_response) e.host_held e.response_reassembled
+  pub response_arrives : ResponseArrives e.wrap_response e.unwrap_response
 
 abbrev pub AllSucceed : List Exchange → Type 0
 AllSucceed [] = Unit {0}
@@ -54,5 +54,5 @@ AllSucceed (e ∷ es) = Succeeds e × AllSucceed es
 
 abbrev pub HonestExchanges : Type 0
 HonestExchanges =
-    (h : OpensHost) (c : OpensCard) → h.result.answer ≡ Done → c.result.answer ≡ Done → cardKeys c ≡ hostKeys h
-    → (es : List Exchange) → length es ≤ commandLimit → AllHonest h.result.session c.result.session es → AllSucceed es
+    (h : OpensHost) (c : OpensCard) → h.result.answer ≡ Done → c.result.answer ≡ Done → card_keys c ≡ host_keys h
+    → (es : List Exchange) → length es ≤ command_limit → AllHonest h.result.session c.result.session es → AllSucceed es

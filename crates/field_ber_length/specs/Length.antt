@@ -6,16 +6,16 @@ use Rattle.field_ber_length.specs.declared.LengthRead.{LengthRead}
 use Rattle.field_ber_length.specs.declared.LengthRead.TheVariants.{Length, BadForm}
 
 -- the shortest form of n, for n below 65,536: one byte to 127, '81' and a byte to 255, '82' and two bytes above
-unfoldable pub lengthField : ℕ → Bytes
-lengthField n =
+unfoldable pub length_field : ℕ → Bytes
+length_field n =
     if ltb n 128 then n ∷ [] else
     if ltb n 256 then 0x81 ∷ n ∷ [] else
     0x82 ∷ n / 256 ∷ n % 256 ∷ []
 
 -- the length whose field starts at index at, in any form of one to three bytes, and the field's size;
 -- a field that is cut off has no form, nor has '80' alone or one of more than three bytes
-unfoldable pub readLength : Bytes → ℕ → LengthRead
-readLength xs at =
+unfoldable pub read_length : Bytes → ℕ → LengthRead
+read_length xs at =
     if ltb at (length xs) then
     (if ltb (get_or xs at 0) 128 then Length (get_or xs at 0) 1 else
     if eqb (get_or xs at 0) 0x81 then (if ltb (at + 1) (length xs) then Length (get_or xs (at + 1) 0) 2 else BadForm) else
@@ -24,5 +24,5 @@ readLength xs at =
     else BadForm
 
 -- whether a length read from a field of that size stood in its shortest form
-unfoldable pub isShortest : ℕ → ℕ → Bool
-isShortest n size = eqb size (length (lengthField n))
+unfoldable pub is_shortest : ℕ → ℕ → Bool
+is_shortest n size = eqb size (length (length_field n))

@@ -1,7 +1,7 @@
 // The lengths of BER-TLV data objects (SP 800-73-4 Part 2, 4.2.1). The shortest form is written. Any form of one to three bytes is
 // read; whether it was the shortest is asked apart.
 ghost use Rattle.std.specs.Prelude.{◌≡◌, length, ◌+◌, ◌<◌, ◌≤◌};
-ghost use Rattle.field_ber_length.specs.Length.{lengthField, isShortest, readLength};
+ghost use Rattle.field_ber_length.specs.Length.{length_field, is_shortest, read_length};
 ghost use Rattle.octets.specs.Write.{Wrote};
 
 use octets::put_bytes;
@@ -15,7 +15,7 @@ pub enum LengthRead {
 
 // The size of n's shortest length field.
 pub fn length_size(n: usize) -> usize
-    ensures { result ≡ length (lengthField n) }
+    ensures { result ≡ length (length_field n) }
 {
     if n <= 127 {
         return 1;
@@ -28,15 +28,15 @@ pub fn length_size(n: usize) -> usize
 
 // Whether a length read from a field of that size stood in its shortest form.
 pub fn is_shortest(n: usize, size: usize) -> bool
-    ensures { result ≡ isShortest n size }
+    ensures { result ≡ is_shortest n size }
 {
     size == length_size(n)
 }
 
 // Writes n's shortest length field; the index behind it.
 pub fn put_length(out: &mut [u8], at: usize, n: usize) -> usize
-    requires { (n < 65536) × (at + length (lengthField n) ≤ length out.old) }
-    ensures { Wrote out.old at (lengthField n) result out.new }
+    requires { (n < 65536) × (at + length (length_field n) ≤ length out.old) }
+    ensures { Wrote out.old at (length_field n) result out.new }
 {
     if n < 128 {
         return put_bytes(out, at, &[(n % 256) as u8]);
@@ -55,7 +55,7 @@ fn wide(b: u8) -> usize
 
 // The length whose field starts at index `at`, in any form of one to three bytes.
 pub fn read_length(bytes: &[u8], at: usize) -> LengthRead
-    ensures { result ≡ readLength bytes.now at }
+    ensures { result ≡ read_length bytes.now at }
 {
     let end = bytes.len();
     if end <= at {

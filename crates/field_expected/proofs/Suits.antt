@@ -5,12 +5,12 @@ use Rattle.field_expected.specs.declared.Need.{Need}
 use Rattle.field_expected.specs.declared.Need.TheVariants.{Must, May, MustNot}
 use Rattle.field_expected.specs.Wanted.{may, lacks, suits}
 
-suits-there : (need : Need) → suits need true ≡ may need
-suits-there Must = refl
-suits-there May = refl
-suits-there MustNot = refl
+suits_there : (need : Need) → suits need true ≡ may need
+suits_there Must = refl
+suits_there May = refl
+suits_there MustNot = refl
 
-suits-absent : (need : Need) → suits need false ≡ not (lacks need false)
-suits-absent Must = refl
-suits-absent May = refl
-suits-absent MustNot = refl
+suits_absent : (need : Need) → suits need false ≡ not (lacks need false)
+suits_absent Must = refl
+suits_absent May = refl
+suits_absent MustNot = refl

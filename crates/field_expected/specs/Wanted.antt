@@ -18,8 +18,8 @@ tag97 = 0x97
 abbrev pub tag99 : ℕ
 tag99 = 0x99
 
-abbrev pub tag8E : ℕ
-tag8E = 0x8E
+abbrev pub tag_8e : ℕ
+tag_8e = 0x8E
 
 -- ---- what a field may hold
 
@@ -48,13 +48,13 @@ unfoldable pub rank : Second → ℕ → ℕ
 rank second tag =
     if eqb tag tag87 then 1 else
     if eqb tag (tag_of second) then 2 else
-    if eqb tag tag8E then 3 else 0
+    if eqb tag tag_8e then 3 else 0
 
 -- whether the tag may stand after an object at place r (0: none): it is in the list, later than that, and not unwanted
 unfoldable pub allowed : Wanted → ℕ → ℕ → Bool
 allowed w r tag =
     ltb r (rank w.second tag)
-    && (if eqb tag tag87 then may w.«data» else if eqb tag tag8E then true else may (need_of w.second))
+    && (if eqb tag tag87 then may w.«data» else if eqb tag tag_8e then true else may (need_of w.second))
 
 -- whether an object may be there, or be absent
 abbrev pub suits : Need → Bool → Bool

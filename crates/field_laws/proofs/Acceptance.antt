@@ -10,8 +10,8 @@ use lib.ListN.{length, get_or}
 use Rattle.octets.specs.Bytes.{Bytes}
 use Rattle.octets.specs.Choice.{if◌then◌else◌}
 use Rattle.field_expected.specs.Wanted.{lacks, tag_of, need_of, rank}
-use Rattle.field_object.specs.Object.{readObject}
-use Rattle.field_read.specs.Field.{none, noted, ended, onObject, walk, readField}
+use Rattle.field_object.specs.Object.{read_object}
+use Rattle.field_read.specs.Field.{none, noted, ended, on_object, walk, read_field}
 use Rattle.field_expected.specs.declared.Second.{Second}
 use Rattle.field_expected.specs.declared.Wanted.{Wanted}
 use Rattle.field_object.specs.declared.Breach.{Breach}
@@ -77,56 +77,56 @@ which second tag r h = go (eqb tag 0x87) refl (eqb tag (tag_of second)) refl (eq
 
 -- ---- one step of the walk, and its end
 
-no-breach : {b : Breach} {p : Objects} {P : Type 0} → BadField b ≡ Read p → P
-no-breach e = let z : ◌≡◌ {A = ℕ} 0 1 = cc in let n : ⊥ = omega arith in absurd n
+no_breach : {b : Breach} {p : Objects} {P : Type 0} → BadField b ≡ Read p → P
+no_breach e = let z : ◌≡◌ {A = ℕ} 0 1 = cc in let n : ⊥ = omega arith in absurd n
 
-none-missing : {tag n : ℕ} {p : Objects} {P : Type 0} → Missing tag n ≡ Read p → P
-none-missing e = let z : ◌≡◌ {A = ℕ} 0 1 = cc in let n : ⊥ = omega arith in absurd n
+none_missing : {tag n : ℕ} {p : Objects} {P : Type 0} → Missing tag n ≡ Read p → P
+none_missing e = let z : ◌≡◌ {A = ℕ} 0 1 = cc in let n : ⊥ = omega arith in absurd n
 
 read_same : {o p : Objects} → Read o ≡ Read p → o ≡ p
 read_same e = cc
 
-ended-read : (w : Wanted) (o : Objects) (r n : ℕ) (p : Objects) → ended w o r n ≡ Read p → (3 ≤ r) × (o ≡ p)
+ended_read : (w : Wanted) (o : Objects) (r n : ℕ) (p : Objects) → ended w o r n ≡ Read p → (3 ≤ r) × (o ≡ p)
 unfolding ended
-ended-read w o r n p e = go (lacks w.«data» (ltb 0 o.ciphertext_len)) (lacks (need_of w.second) o.second) (ltb r 3) refl e
+ended_read w o r n p e = go (lacks w.«data» (ltb 0 o.ciphertext_len)) (lacks (need_of w.second) o.second) (ltb r 3) refl e
   where
     go : (s t u : Bool) → ltb r 3 ≡ u
         → (if s then Missing 0x87 n else if t then Missing (tag_of w.second) n else if u then Missing 0x8E n else Read o) ≡ Read p
         → (3 ≤ r) × (o ≡ p)
-    go true t u g h = none-missing h
-    go false true u g h = none-missing h
-    go false false true g h = none-missing h
+    go true t u g h = none_missing h
+    go false true u g h = none_missing h
+    go false false true g h = none_missing h
     go false false false g h = (ltb-false r 3 g, read_same h)
 
 -- the walk goes on with an object at index at
 abbrev Goes : Wanted → Bytes → Objects → ℕ → Objects → ℕ → ℕ → Type 0
 Goes w xs p k o r at = (d : DataObject) × (Stands w r xs at d × (walk k w xs (noted o d) (rank w.second d.tag) d.next ≡ Read p))
 
-ended-complete : (w : Wanted) (o : Objects) (r n : ℕ) (p : Objects) → ended w o r n ≡ Read p → Complete w o
+ended_complete : (w : Wanted) (o : Objects) (r n : ℕ) (p : Objects) → ended w o r n ≡ Read p → Complete w o
 unfolding ended
-ended-complete w o r n p e =
+ended_complete w o r n p e =
     go (lacks w.«data» (ltb 0 o.ciphertext_len)) refl (lacks (need_of w.second) o.second) refl (ltb r 3) e
   where
     go : (s : Bool) → lacks w.«data» (ltb 0 o.ciphertext_len) ≡ s → (t : Bool) → lacks (need_of w.second) o.second ≡ t → (u : Bool)
         → (if s then Missing 0x87 n else if t then Missing (tag_of w.second) n else if u then Missing 0x8E n else Read o) ≡ Read p → Complete w o
-    go true f t g u h = none-missing h
-    go false f true g u h = none-missing h
+    go true f t g u h = none_missing h
+    go false f true g u h = none_missing h
     go false f false g u h = (f, g)
 
 module _ (w : Wanted) (xs : Bytes) (p : Objects) where
   step : (k : ℕ) (o : Objects) (r at : ℕ) → walk (suc k) w xs o r at ≡ Read p
       → ((length xs ≤ at) × (ended w o r (length xs) ≡ Read p))
       ⊎ Goes w xs p k o r at
-  unfolding walk onObject
-  step k o r at e = go (ltb at (length xs)) refl (readObject w r xs at) refl e
+  unfolding walk on_object
+  step k o r at e = go (ltb at (length xs)) refl (read_object w r xs at) refl e
     where
-      go : (t : Bool) → ltb at (length xs) ≡ t → (q : ObjectRead) → readObject w r xs at ≡ q
-          → (if t then onObject q (λ d. walk k w xs (noted o d) (rank w.second d.tag) d.next) else ended w o r (length xs)) ≡ Read p
+      go : (t : Bool) → ltb at (length xs) ≡ t → (q : ObjectRead) → read_object w r xs at ≡ q
+          → (if t then on_object q (λ d. walk k w xs (noted o d) (rank w.second d.tag) d.next) else ended w o r (length xs)) ≡ Read p
           → ((length xs ≤ at) × (ended w o r (length xs) ≡ Read p))
           ⊎ Goes w xs p k o r at
       go false f q g h = inl (ltb-false at (length xs) f, h)
       go true f (Object d) g h = inr (d, (stands w r xs at d g, h))
-      go true f (Malformed b) g h = no-breach h
+      go true f (Malformed b) g h = no_breach h
 
   -- before '8E' the field cannot have ended
   more : (k : ℕ) (o : Objects) (r at : ℕ) → r < 3 → walk (suc k) w xs o r at ≡ Read p
@@ -136,7 +136,7 @@ module _ (w : Wanted) (xs : Bytes) (p : Objects) where
       go : ((length xs ≤ at) × (ended w o r (length xs) ≡ Read p))
           ⊎ Goes w xs p k o r at
           → Goes w xs p k o r at
-      go (inl (l, f)) = let g : 3 ≤ r = (ended-read w o r (length xs) p f).0 in let z : ⊥ = omega arith in absurd z
+      go (inl (l, f)) = let g : 3 ≤ r = (ended_read w o r (length xs) p f).0 in let z : ⊥ = omega arith in absurd z
       go (inr s) = s
 
   -- after '8E' it must have
@@ -146,7 +146,7 @@ module _ (w : Wanted) (xs : Bytes) (p : Objects) where
       go : ((length xs ≤ at) × (ended w o r (length xs) ≡ Read p))
           ⊎ Goes w xs p k o r at
           → (length xs ≤ at) × (o ≡ p)
-      go (inl (l, f)) = (l, (ended-read w o r (length xs) p f).1)
+      go (inl (l, f)) = (l, (ended_read w o r (length xs) p f).1)
       go (inr (d, (s, f))) =
           let m : rank w.second (get_or xs at 0) ≤ 3 = rank_most w.second (get_or xs at 0) in
           let l : r < rank w.second (get_or xs at 0) = later w r (get_or xs at 0) s.ok in
@@ -154,20 +154,20 @@ module _ (w : Wanted) (xs : Bytes) (p : Objects) where
 
   -- ---- the parts of a field, from the last to the first
 
-  next-within : {r at : ℕ} {d : DataObject} → Stands w r xs at d → d.next ≤ length xs
-  next-within {r} {at} {d} s = let e : d.next ≡ at + 1 + s.size + s.n = ap (λ (d : DataObject). d.next) s.same in omega (arith, e, s.inside)
+  next_within : {r at : ℕ} {d : DataObject} → Stands w r xs at d → d.next ≤ length xs
+  next_within {r} {at} {d} s = let e : d.next ≡ at + 1 + s.size + s.n = ap (λ (d : DataObject). d.next) s.same in omega (arith, e, s.inside)
 
   place_of : {r at : ℕ} {d : DataObject} → Stands w r xs at d → rank w.second d.tag ≡ rank w.second (get_or xs at 0)
   place_of {r} {at} {d} s = ap (λ (d : DataObject). rank w.second d.tag) s.same
 
-  mac-part : (k : ℕ) (o : Objects) (r at : ℕ) (d : DataObject) → Stands w r xs at d → get_or xs at 0 ≡ 0x8E → rank w.second (get_or xs at 0) ≡ 3
+  mac_part : (k : ℕ) (o : Objects) (r at : ℕ) (d : DataObject) → Stands w r xs at d → get_or xs at 0 ≡ 0x8E → rank w.second (get_or xs at 0) ≡ 3
       → walk (suc k) w xs (noted o d) (rank w.second d.tag) d.next ≡ Read p → Part w xs at 0x8E (length xs) o p
-  mac-part k o r at d s t h e =
+  mac_part k o r at d s t h e =
       let q : (length xs ≤ d.next) × (noted o d ≡ p) = no_more k (noted o d) (rank w.second d.tag) d.next (omega (arith, place_of s, h)) e in
-      record { r = r; d = d; here = s; tagged = t; ends = omega (arith, q.0, next-within s); notes = q.1 }
+      record { r = r; d = d; here = s; tagged = t; ends = omega (arith, q.0, next_within s); notes = q.1 }
 
-  mac-last : (k : ℕ) (o : Objects) (r at : ℕ) → r ≡ 2 → walk (suc (suc k)) w xs o r at ≡ Read p → Part w xs at 0x8E (length xs) o p
-  mac-last k o r at h e = go (more (suc k) o r at (omega arith) e)
+  mac_last : (k : ℕ) (o : Objects) (r at : ℕ) → r ≡ 2 → walk (suc (suc k)) w xs o r at ≡ Read p → Part w xs at 0x8E (length xs) o p
+  mac_last k o r at h e = go (more (suc k) o r at (omega arith) e)
     where
       go : Goes w xs p (suc k) o r at → Part w xs at 0x8E (length xs) o p
       go (d, (s, f)) = by (which w.second (get_or xs at 0) r (later w r (get_or xs at 0) s.ok))
@@ -175,7 +175,7 @@ module _ (w : Wanted) (xs : Bytes) (p : Objects) where
           by : Which w.second (get_or xs at 0) → Part w xs at 0x8E (length xs) o p
           by (inl (t, g)) = let z : ⊥ = omega (arith, later w r (get_or xs at 0) s.ok, g, h) in absurd z
           by (inr (inl (t, g))) = let z : ⊥ = omega (arith, later w r (get_or xs at 0) s.ok, g, h) in absurd z
-          by (inr (inr (t, g))) = mac-part k o r at d s t g f
+          by (inr (inr (t, g))) = mac_part k o r at d s t g f
 
   tail_from : (k : ℕ) (o : Objects) (r at : ℕ) (d : DataObject) → Stands w r xs at d → 1 < rank w.second (get_or xs at 0)
       → walk (suc (suc k)) w xs (noted o d) (rank w.second d.tag) d.next ≡ Read p → Tail w xs at o p
@@ -188,17 +188,17 @@ module _ (w : Wanted) (xs : Bytes) (p : Objects) where
             b = d.next;
             o2 = noted o d;
             second = inr (record { r = r; d = d; here = s; tagged = t; ends = refl; notes = refl });
-            last = mac-last k (noted o d) (rank w.second d.tag) d.next (place_of s ∙ g) e;
+            last = mac_last k (noted o d) (rank w.second d.tag) d.next (place_of s ∙ g) e;
           }
-      by (inr (inr (t, g))) = record { b = at; o2 = o; second = inl (refl, refl); last = mac-part (suc k) o r at d s t g e }
+      by (inr (inr (t, g))) = record { b = at; o2 = o; second = inl (refl, refl); last = mac_part (suc k) o r at d s t g e }
 
-  pub accepted : readField w xs ≡ Read p → Accepted w xs p
-  unfolding readField
+  pub accepted : read_field w xs ≡ Read p → Accepted w xs p
+  unfolding read_field
   accepted e = go (more 3 none 0 0 (lit≤ tt) e)
     where
-      behind-data : (d : DataObject) → Stands w 0 xs 0 d → get_or xs 0 0 ≡ 0x87 → rank w.second (get_or xs 0 0) ≡ 1
+      behind_data : (d : DataObject) → Stands w 0 xs 0 d → get_or xs 0 0 ≡ 0x87 → rank w.second (get_or xs 0 0) ≡ 1
           → Goes w xs p 2 (noted none d) (rank w.second d.tag) d.next → Accepted w xs p
-      behind-data d s t g (d2, (s2, f)) =
+      behind_data d s t g (d2, (s2, f)) =
           record {
             a = d.next;
             o1 = noted none d;
@@ -215,23 +215,23 @@ module _ (w : Wanted) (xs : Bytes) (p : Objects) where
           at_once h = record { a = 0; o1 = none; first = inl (refl, refl); tail = tail_from 1 none 0 0 d s h f }
 
           by : Which w.second (get_or xs 0 0) → Accepted w xs p
-          by (inl (t, g)) = behind-data d s t g (more 2 (noted none d) (rank w.second d.tag) d.next (omega (arith, place_of s, g)) f)
+          by (inl (t, g)) = behind_data d s t g (more 2 (noted none d) (rank w.second d.tag) d.next (omega (arith, place_of s, g)) f)
           by (inr (inl (t, g))) = at_once (omega (arith, g))
           by (inr (inr (t, g))) = at_once (omega (arith, g))
 
-  at-end : (o : Objects) (r : ℕ) → ended w o r (length xs) ≡ Read p → Complete w p
-  at-end o r e = subst (Complete w) (ended-read w o r (length xs) p e).1 (ended-complete w o r (length xs) p e)
+  at_end : (o : Objects) (r : ℕ) → ended w o r (length xs) ≡ Read p → Complete w p
+  at_end o r e = subst (Complete w) (ended_read w o r (length xs) p e).1 (ended_complete w o r (length xs) p e)
 
   complete : (k : ℕ) (o : Objects) (r at : ℕ) → walk k w xs o r at ≡ Read p → Complete w p
   unfolding walk
-  complete zero o r at e = at-end o r e
+  complete zero o r at e = at_end o r e
   complete (suc k) o r at e = go (complete k) (step k o r at e)
     where
       go : ((o : Objects) (r at : ℕ) → walk k w xs o r at ≡ Read p → Complete w p)
           → ((length xs ≤ at) × (ended w o r (length xs) ≡ Read p)) ⊎ Goes w xs p k o r at → Complete w p
-      go rest (inl (l, f)) = at-end o r f
+      go rest (inl (l, f)) = at_end o r f
       go rest (inr (d, (s, f))) = rest (noted o d) (rank w.second d.tag) d.next f
 
-  pub all_there : readField w xs ≡ Read p → Complete w p
-  unfolding readField
+  pub all_there : read_field w xs ≡ Read p → Complete w p
+  unfolding read_field
   all_there e = complete 4 none 0 0 e

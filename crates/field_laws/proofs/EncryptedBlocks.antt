@@ -7,13 +7,13 @@ use lib.Dec.{eqb}
 use lib.ListN.{length}
 use Rattle.octets.specs.Bytes.{Bytes}
 use Rattle.octets.specs.Choice.{if◌then◌else◌}
-use Rattle.field_padding.specs.Padding.{paddedLength}
-use Rattle.field_size.specs.Lengths.{ciphertextLength}
+use Rattle.field_padding.specs.Padding.{padded_length}
+use Rattle.field_size.specs.Lengths.{ciphertext_length}
 use Rattle.field_laws.specs.Written.{WholeBlocks}
 
-pub encrypted-blocks : (blocks n : ℕ) (c : Bytes) → length c ≡ ciphertextLength n → n < 16 * blocks → WholeBlocks (16 * blocks) c
-unfolding ciphertextLength paddedLength
-encrypted-blocks blocks n c e h = go (eqb n 0) e
+pub encrypted_blocks : (blocks n : ℕ) (c : Bytes) → length c ≡ ciphertext_length n → n < 16 * blocks → WholeBlocks (16 * blocks) c
+unfolding ciphertext_length padded_length
+encrypted_blocks blocks n c e h = go (eqb n 0) e
   where
     go : (t : Bool) → length c ≡ (if t then 0 else 16 * (n / 16 + 1)) → WholeBlocks (16 * blocks) c
     go true e = (omega (arith, e), omega (arith, e))

@@ -2,11 +2,11 @@
 use Rattle.std.specs.Prelude.{Bool, ℕ, ◌+◌, leb, length, get_or}
 use Rattle.octets.specs.Bytes.{Bytes}
 use Rattle.octets.specs.Choice.{if◌then◌else◌}
-use Rattle.field_ber_length.specs.Length.{readLength, isShortest}
+use Rattle.field_ber_length.specs.Length.{read_length, is_shortest}
 use Rattle.field_ber_length.specs.declared.LengthRead.{LengthRead}
 use Rattle.field_ber_length.specs.declared.LengthRead.TheVariants.{Length, BadForm}
 use Rattle.field_expected.specs.Wanted.{allowed}
-use Rattle.field_object.specs.Values.{rightSize, rightValue}
+use Rattle.field_object.specs.Values.{right_size, right_value}
 use Rattle.field_expected.specs.declared.Wanted.{Wanted}
 use Rattle.field_object.specs.declared.Rule.{Rule}
 use Rattle.field_object.specs.declared.Rule.TheVariants.{Tag, LengthForm, LengthSize, BytesLeft, Value}
@@ -22,17 +22,17 @@ unfoldable pub require◌else◌⨾◌ : Bool → ObjectRead → ObjectRead → 
 require ok else bad ⨾ good = if ok then good else bad
 
 -- the object that starts at index start and whose length field starts at index at: form, size, bytes left, value, in that order
-unfoldable pub withLength : Wanted → Bytes → ℕ → ℕ → ℕ → LengthRead → ObjectRead
-withLength w xs tag start at BadForm = Malformed (breach LengthForm tag at)
-withLength w xs tag start at (Length n size) =
-    require isShortest n size else Malformed (breach LengthForm tag at) ⨾
-    require rightSize w tag n else Malformed (breach LengthSize tag at) ⨾
+unfoldable pub with_length : Wanted → Bytes → ℕ → ℕ → ℕ → LengthRead → ObjectRead
+with_length w xs tag start at BadForm = Malformed (breach LengthForm tag at)
+with_length w xs tag start at (Length n size) =
+    require is_shortest n size else Malformed (breach LengthForm tag at) ⨾
+    require right_size w tag n else Malformed (breach LengthSize tag at) ⨾
     require leb (at + size + n) (length xs) else Malformed (breach BytesLeft tag at) ⨾
-    require rightValue w tag xs (at + size) else Malformed (breach Value tag (at + size)) ⨾
+    require right_value w tag xs (at + size) else Malformed (breach Value tag (at + size)) ⨾
     Object (record { tag = tag; start = start; value = at + size; len = n; next = at + size + n })
 
 -- the object at index at, after one at place r
-unfoldable pub readObject : Wanted → ℕ → Bytes → ℕ → ObjectRead
-readObject w r xs at =
+unfoldable pub read_object : Wanted → ℕ → Bytes → ℕ → ObjectRead
+read_object w r xs at =
     require allowed w r (get_or xs at 0) else Malformed (breach Tag (get_or xs at 0) at) ⨾
-    withLength w xs (get_or xs at 0) at (at + 1) (readLength xs (at + 1))
+    with_length w xs (get_or xs at 0) at (at + 1) (read_length xs (at + 1))

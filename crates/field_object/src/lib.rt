@@ -2,7 +2,7 @@
 mod rules;
 
 ghost use Rattle.std.specs.Prelude.{◌≡◌, ◌<◌, length};
-ghost use Rattle.field_object.specs.Object.{readObject};
+ghost use Rattle.field_object.specs.Object.{read_object};
 ghost use Rattle.field_object.specs.Step.{index_after, read_step};
 
 use field_ber_length::{LengthRead, is_shortest, read_length};
@@ -46,7 +46,7 @@ pub enum ObjectRead {
 // The object at index `at`, after one at place `after` of the side's list.
 fn read_object(wanted: Wanted, after: usize, bytes: &[u8], at: usize) -> ObjectRead
     requires { at < length bytes.now }
-    ensures { result ≡ readObject wanted after bytes.now at }
+    ensures { result ≡ read_object wanted after bytes.now at }
 {
     let tag = bytes[at];
     let from = at + 1;

@@ -1,6 +1,6 @@
 // The length and the value that an object of a field must have (rules 5.10 to 5.12).
 ghost use Rattle.std.specs.Prelude.{◌≡◌, ◌+◌, get_or};
-ghost use Rattle.field_object.specs.Values.{rightSecond, rightValue, size_of, rightSize};
+ghost use Rattle.field_object.specs.Values.{right_second, right_value, size_of, right_size};
 
 use field_expected::{Second, TAG_8E, TAG_87, Wanted};
 
@@ -15,7 +15,7 @@ fn second_size(second: Second) -> usize
 
 // Whether n is a length of the object of that tag.
 pub fn right_size(wanted: Wanted, tag: u8, n: usize) -> bool
-    ensures { result ≡ rightSize wanted tag n }
+    ensures { result ≡ right_size wanted tag n }
 {
     let limit = wanted.limit;
     let second = wanted.second;
@@ -53,7 +53,7 @@ fn byte_after(bytes: &[u8], at: usize) -> u8
 }
 
 fn right_second(second: Second, bytes: &[u8], at: usize) -> bool
-    ensures { result ≡ rightSecond second bytes.now at }
+    ensures { result ≡ right_second second bytes.now at }
 {
     match second {
         Second::Le(_) => byte_at(bytes, at) == 0,
@@ -68,7 +68,7 @@ fn right_second(second: Second, bytes: &[u8], at: usize) -> bool
 
 // Whether the value at index `at` is one of the object of that tag.
 pub fn right_value(wanted: Wanted, tag: u8, bytes: &[u8], at: usize) -> bool
-    ensures { result ≡ rightValue wanted tag bytes.now at }
+    ensures { result ≡ right_value wanted tag bytes.now at }
 {
     let second = wanted.second;
     if tag == TAG_87 {

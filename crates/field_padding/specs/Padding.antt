@@ -13,26 +13,26 @@ unfoldable pub pad : Bytes → Bytes
 pad xs = xs ++ padding (length xs)
 
 -- E of rule 4.4: the length of p bytes of data with their padding
-unfoldable pub paddedLength : ℕ → ℕ
-paddedLength p = 16 * (p / 16 + 1)
+unfoldable pub padded_length : ℕ → ℕ
+padded_length p = 16 * (p / 16 + 1)
 
 -- the last byte that isn't zero, b at index n, must be '80', and data must stand before it
 unfoldable pub marked : ℕ → ℕ → Unpadded
 marked b n = if eqb b 0x80 then (if eqb n 0 then BadPadding else Data n) else BadPadding
 
 -- the last byte that isn't zero among the k bytes before index n
-unfoldable pub markBefore : ℕ → Bytes → ℕ → Unpadded
-markBefore zero xs n = BadPadding
-markBefore (suc k) xs n = if eqb (get_or xs (n - 1) 0) 0 then markBefore k xs (n - 1) else marked (get_or xs (n - 1) 0) (n - 1)
+unfoldable pub mark_before : ℕ → Bytes → ℕ → Unpadded
+mark_before zero xs n = BadPadding
+mark_before (suc k) xs n = if eqb (get_or xs (n - 1) 0) 0 then mark_before k xs (n - 1) else marked (get_or xs (n - 1) 0) (n - 1)
 
 -- padding is looked for in the last 16 bytes only
 unfoldable pub unpad : Bytes → Unpadded
-unpad xs = markBefore (min 16 (length xs)) xs (length xs)
+unpad xs = mark_before (min 16 (length xs)) xs (length xs)
 
 -- the rule: some data ends at index m, where '80' is the last byte that isn't zero, and it is among the last 16
 pub record PaddedAt (xs : Bytes) (m : ℕ) : Type 0 where
-  pub some-data : 0 < m
+  pub some_data : 0 < m
   pub within : m < length xs
-  pub in-the-last-16 : length xs ≤ m + 16
+  pub in_the_last_16 : length xs ≤ m + 16
   pub mark : get_or xs m 0 ≡ 0x80
-  pub zeros-after : (i : ℕ) → m < i → get_or xs i 0 ≡ 0
+  pub zeros_after : (i : ℕ) → m < i → get_or xs i 0 ≡ 0

@@ -1,7 +1,7 @@
 // The padding of command and response data (SP 800-73-4 Part 2, 4.2.2): written, and the data's length found again.
 ghost use Rattle.std.specs.Prelude.{◌≡◌, ◌+◌, ◌<◌, ◌≤◌, min, length};
 ghost use Rattle.octets.specs.Write.{Wrote};
-ghost use Rattle.field_padding.specs.Padding.{padding, paddedLength, marked, unpad};
+ghost use Rattle.field_padding.specs.Padding.{padding, padded_length, marked, unpad};
 
 use octets::{put_byte, put_zeros};
 
@@ -15,7 +15,7 @@ pub enum Unpadded {
 // The length of p bytes of data with their padding.
 pub fn padded_length(p: usize) -> usize
     requires { p < 65536 }
-    ensures { result ≡ paddedLength p }
+    ensures { result ≡ padded_length p }
 {
     16 * (p / 16 + 1)
 }

@@ -2,8 +2,8 @@
 use Rattle.std.specs.Prelude.{true, false, ℕ, zero, suc, ◌+◌, ◌-◌, eqb, ltb, length, take, drop}
 use Rattle.octets.specs.Bytes.{Bytes}
 use Rattle.octets.specs.Choice.{if◌then◌else◌}
-use Rattle.field_expected.specs.Wanted.{tag87, tag8E, lacks, tag_of, need_of, rank}
-use Rattle.field_object.specs.Object.{breach, readObject}
+use Rattle.field_expected.specs.Wanted.{tag87, tag_8e, lacks, tag_of, need_of, rank}
+use Rattle.field_object.specs.Object.{breach, read_object}
 use Rattle.field_expected.specs.declared.Wanted.{Wanted}
 use Rattle.field_object.specs.declared.Rule.TheVariants.{Tag}
 use Rattle.field_object.specs.declared.DataObject.{DataObject}
@@ -22,7 +22,7 @@ unfoldable pub noted : Objects → DataObject → Objects
 noted o d =
     if eqb d.tag tag87 then
     record { ciphertext = d.value + 1; ciphertext_len = d.len - 1; second = o.second; mac_start = o.mac_start; mac = o.mac } else
-    if eqb d.tag tag8E then
+    if eqb d.tag tag_8e then
     record { ciphertext = o.ciphertext; ciphertext_len = o.ciphertext_len; second = o.second; mac_start = d.start; mac = d.value } else
     record { ciphertext = o.ciphertext; ciphertext_len = o.ciphertext_len; second = true; mac_start = o.mac_start; mac = o.mac }
 
@@ -36,33 +36,33 @@ unfoldable pub ended : Wanted → Objects → ℕ → ℕ → FieldRead
 ended w o r end =
     if lacks w.«data» (ltb 0 o.ciphertext_len) then Missing tag87 end else
     if lacks (need_of w.second) o.second then Missing (tag_of w.second) end else
-    if ltb r 3 then Missing tag8E end else Read o
+    if ltb r 3 then Missing tag_8e end else Read o
 
 -- what an object leads to, by the walk from it on
-unfoldable pub onObject : ObjectRead → (DataObject → FieldRead) → FieldRead
-onObject (Object d) walk = walk d
-onObject (Malformed b) walk = BadField b
+unfoldable pub on_object : ObjectRead → (DataObject → FieldRead) → FieldRead
+on_object (Object d) walk = walk d
+on_object (Malformed b) walk = BadField b
 
 -- the walk from index at on, after an object at place r, with at most k objects to read
 unfoldable pub walk : ℕ → Wanted → Bytes → Objects → ℕ → ℕ → FieldRead
 walk zero w xs o r at = ended w o r (length xs)
 walk (suc k) w xs o r at =
     if ltb at (length xs) then
-    onObject (readObject w r xs at) (λ d. walk k w xs (noted o d) (rank w.second d.tag) d.next)
+    on_object (read_object w r xs at) (λ d. walk k w xs (noted o d) (rank w.second d.tag) d.next)
     else ended w o r (length xs)
 
 -- a list has three tags, so the fourth object is a breach at the latest
-unfoldable pub readField : Wanted → Bytes → FieldRead
-readField w xs = walk 4 w xs none 0 0
+unfoldable pub read_field : Wanted → Bytes → FieldRead
+read_field w xs = walk 4 w xs none 0 0
 
 -- ---- what an accepted field held
 
-abbrev pub ciphertextOf : Bytes → Objects → Bytes
-ciphertextOf xs o = take o.ciphertext_len (drop o.ciphertext xs)
+abbrev pub ciphertext_of : Bytes → Objects → Bytes
+ciphertext_of xs o = take o.ciphertext_len (drop o.ciphertext xs)
 
 -- the bytes before '8E', as received: those that the MAC covers
-abbrev pub coveredOf : Bytes → Objects → Bytes
-coveredOf xs o = take o.mac_start xs
+abbrev pub covered_of : Bytes → Objects → Bytes
+covered_of xs o = take o.mac_start xs
 
-abbrev pub macOf : Bytes → Objects → Bytes
-macOf xs o = take 8 (drop o.mac xs)
+abbrev pub mac_of : Bytes → Objects → Bytes
+mac_of xs o = take 8 (drop o.mac xs)

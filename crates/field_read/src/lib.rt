@@ -2,7 +2,7 @@
 mod reader;
 
 ghost use Rattle.std.specs.Prelude.{◌≡◌, ◌+◌, ◌≤◌};
-ghost use Rattle.field_read.specs.Field.{noted, refused, ended, readField};
+ghost use Rattle.field_read.specs.Field.{noted, refused, ended, read_field};
 ghost use Rattle.field_expected.specs.Wanted.{lacks};
 
 use field_expected::{Need, TAG_8E, TAG_87, Wanted, rank, second_need, second_tag};
@@ -33,7 +33,7 @@ pub enum FieldRead {
 
 // The objects of a field, or the first breach, or the first object that is lacking.
 pub fn read_field(wanted: Wanted, field: &[u8]) -> FieldRead
-    ensures { result ≡ readField wanted field.now }
+    ensures { result ≡ read_field wanted field.now }
 {
     let second = wanted.second;
     let mut objects = Objects {

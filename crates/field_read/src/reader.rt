@@ -1,7 +1,7 @@
 // A reader, which keeps the caller's field and an index into it (rule 5.14). A Reader is made for each object: read_field keeps the
 // index between two of them, and so needs no proof by hand.
 ghost use Rattle.std.specs.Prelude.{◌≡◌, ◌<◌, length};
-ghost use Rattle.field_object.specs.Object.{readObject};
+ghost use Rattle.field_object.specs.Object.{read_object};
 ghost use Rattle.field_read.specs.Reader.{opened, moved};
 ghost use Rattle.field_object.specs.Step.{read_step};
 
@@ -25,7 +25,7 @@ impl<'a> Reader<'a> {
     // Reads the object at the reader's index, after one at place `after` of the side's list, and moves behind it.
     pub fn next(&mut self, wanted: Wanted, after: usize) -> ObjectRead
         requires { self.old.at < length self.old.field.now }
-        ensures read { result ≡ readObject wanted after self.old.field.now self.old.at }
+        ensures read { result ≡ read_object wanted after self.old.field.now self.old.at }
         ensures reader { self.new ≡ moved self.old result }
     {
         let step = read_step(wanted, after, self.field, self.at);

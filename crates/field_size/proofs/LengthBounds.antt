@@ -8,31 +8,31 @@ use borrow.Author.Tests.{lt-ltb, le-ltb, eqb-true, eqb-false}
 use lib.Dec.{eqb, ltb}
 use lib.ListN.{length}
 use Rattle.octets.specs.Choice.{if◌then◌else◌}
-use Rattle.field_padding.specs.Padding.{paddedLength}
-use Rattle.field_ber_length.specs.Length.{lengthField}
-use Rattle.field_ber_length.proofs.LengthForms.{length-field-most}
-use Rattle.field_size.specs.Lengths.{ciphertextLength, encryptedDataLength}
+use Rattle.field_padding.specs.Padding.{padded_length}
+use Rattle.field_ber_length.specs.Length.{length_field}
+use Rattle.field_ber_length.proofs.LengthForms.{length_field_most}
+use Rattle.field_size.specs.Lengths.{ciphertext_length, encrypted_data_length}
 
-pub data-most : (e : ℕ) → encryptedDataLength e ≤ e + 5
-unfolding encryptedDataLength
-data-most e = go (eqb e 0)
+pub data_most : (e : ℕ) → encrypted_data_length e ≤ e + 5
+unfolding encrypted_data_length
+data_most e = go (eqb e 0)
   where
-    go : (t : Bool) → (if t then 0 else 2 + length (lengthField (e + 1)) + e) ≤ e + 5
+    go : (t : Bool) → (if t then 0 else 2 + length (length_field (e + 1)) + e) ≤ e + 5
     go true = omega arith
-    go false = omega (arith, length-field-most (e + 1))
+    go false = omega (arith, length_field_most (e + 1))
 
-pub ciphertext-most : (p : ℕ) → p < 65536 → ciphertextLength p ≤ 65536
-unfolding ciphertextLength paddedLength
-ciphertext-most p h = go (eqb p 0)
+pub ciphertext_most : (p : ℕ) → p < 65536 → ciphertext_length p ≤ 65536
+unfolding ciphertext_length padded_length
+ciphertext_most p h = go (eqb p 0)
   where
     go : (t : Bool) → (if t then 0 else 16 * (p / 16 + 1)) ≤ 65536
     go true = omega arith
     go false = omega arith
 
 -- there is encrypted data exactly where there is data
-pub some-encrypted : (p : ℕ) → ltb 0 (ciphertextLength p) ≡ ltb 0 p
-unfolding ciphertextLength paddedLength
-some-encrypted p = go (eqb p 0) refl
+pub some_encrypted : (p : ℕ) → ltb 0 (ciphertext_length p) ≡ ltb 0 p
+unfolding ciphertext_length padded_length
+some_encrypted p = go (eqb p 0) refl
   where
     go : (t : Bool) → eqb p 0 ≡ t → ltb 0 (if t then 0 else 16 * (p / 16 + 1)) ≡ ltb 0 p
     go true e = sym (le-ltb 0 p (omega (arith, eqb-true p 0 e)))

@@ -1,6 +1,6 @@
 // How long a secure messaging field is, from the length of its data and whether Le is present.
 ghost use Rattle.std.specs.Prelude.{◌≡◌, ◌<◌};
-ghost use Rattle.field_size.specs.Lengths.{ciphertextLength, encryptedDataLength, commandLength, responseLength};
+ghost use Rattle.field_size.specs.Lengths.{ciphertext_length, encrypted_data_length, command_length, response_length};
 
 use field_ber_length::length_size;
 use field_padding::padded_length;
@@ -8,7 +8,7 @@ use field_padding::padded_length;
 // The length of the encrypted form of p bytes of data.
 fn ciphertext_length(p: usize) -> usize
     requires { p < 65536 }
-    ensures { result ≡ ciphertextLength p }
+    ensures { result ≡ ciphertext_length p }
 {
     if p == 0 {
         return 0;
@@ -18,7 +18,7 @@ fn ciphertext_length(p: usize) -> usize
 
 fn encrypted_data_length(e: usize) -> usize
     requires { e < 131072 }
-    ensures { result ≡ encryptedDataLength e }
+    ensures { result ≡ encrypted_data_length e }
 {
     if e == 0 {
         return 0;
@@ -29,7 +29,7 @@ fn encrypted_data_length(e: usize) -> usize
 // The length of a command's field with p bytes of data.
 pub fn command_length(p: usize, le: bool) -> usize
     requires { p < 65536 }
-    ensures { result ≡ commandLength p le }
+    ensures { result ≡ command_length p le }
 {
     let n = encrypted_data_length(ciphertext_length(p));
     if le {
@@ -41,7 +41,7 @@ pub fn command_length(p: usize, le: bool) -> usize
 // The length of a response's field with p bytes of data.
 pub fn response_length(p: usize) -> usize
     requires { p < 65536 }
-    ensures { result ≡ responseLength p }
+    ensures { result ≡ response_length p }
 {
     encrypted_data_length(ciphertext_length(p)) + 4 + 10
 }

@@ -9,41 +9,41 @@ use Rattle.session.specs.Session.{closed}
 use Rattle.session.specs.declared.Session.{Session}
 use Rattle.message_answer.specs.Outcome as any
 use Rattle.message_answer.specs.Answer.{Answer, refused, gave, require◌else◌⨾◌, ◌and-then◌, Outcome, concluded}
-use Rattle.message_answer.proofs.Required.{not-given}
+use Rattle.message_answer.proofs.Required.{not_given_lem}
 
 abbrev pub Among : {A : Type 0} → List ℕ → Answer A → Type 0
 Among ns a = (r : Refusal) → a ≡ refused r → Memᴰ (number r) ns
 
-pub same-refusal : (A : Type 0) {q r : Refusal} → ◌≡◌ {A = Answer A} (refused q) (refused r) → q ≡ r
-same-refusal A e = cc
+pub same_refusal : (A : Type 0) {q r : Refusal} → ◌≡◌ {A = Answer A} (refused q) (refused r) → q ≡ r
+same_refusal A e = cc
 
-pub refused-among : (A : Type 0) (ns : List ℕ) (q : Refusal) → Memᴰ (number q) ns → Among {A = A} ns (refused q)
-refused-among A ns q m r e = subst (λ (x : Refusal). Memᴰ (number x) ns) (same-refusal A e) m
+pub refused_among : (A : Type 0) (ns : List ℕ) (q : Refusal) → Memᴰ (number q) ns → Among {A = A} ns (refused q)
+refused_among A ns q m r e = subst (λ (x : Refusal). Memᴰ (number x) ns) (same_refusal A e) m
 
-pub gave-among : {A : Type 0} (ns : List ℕ) (x : A) → Among ns (gave x)
-gave-among ns x r e = not-given e
+pub gave_among : {A : Type 0} (ns : List ℕ) (x : A) → Among ns (gave x)
+gave_among ns x r e = not_given_lem e
 
-pub require-among : {A : Type 0} (ns : List ℕ) (ok : Bool) (q : Refusal) (rest : Answer A) → Memᴰ (number q) ns → Among ns rest
+pub require_among : {A : Type 0} (ns : List ℕ) (ok : Bool) (q : Refusal) (rest : Answer A) → Memᴰ (number q) ns → Among ns rest
     → Among ns (require ok else q ⨾ rest)
 unfolding require◌else◌⨾◌
-require-among {A} ns true q rest m f = f
-require-among {A} ns false q rest m f = refused-among A ns q m
+require_among {A} ns true q rest m f = f
+require_among {A} ns false q rest m f = refused_among A ns q m
 
-pub then-among : {A B : Type 0} (ns : List ℕ) (a : Answer A) (more : A → Answer B) → Among ns a → ((x : A) → Among ns (more x)) → Among ns (a and_then more)
+pub then_among : {A B : Type 0} (ns : List ℕ) (a : Answer A) (more : A → Answer B) → Among ns a → ((x : A) → Among ns (more x)) → Among ns (a and_then more)
 unfolding ◌and-then◌
-then-among {A} {B} ns (refused q) more f g = refused-among B ns q (f q refl)
-then-among {A} {B} ns (gave x) more f g = g x
+then_among {A} {B} ns (refused q) more f g = refused_among B ns q (f q refl)
+then_among {A} {B} ns (gave x) more f g = g x
 
-pub call-among : {S A : Type 0} (closing : S → S) (ns : List ℕ) (s : S) (a : Answer (any.Outcome S A)) → Among ns a
+pub call_among : {S A : Type 0} (closing : S → S) (ns : List ℕ) (s : S) (a : Answer (any.Outcome S A)) → Among ns a
     → Among ns (any.concluded closing s a).answer
 unfolding any.concluded
-call-among {S} {A} closing ns s (refused q) f = refused-among A ns q (f q refl)
-call-among {S} {A} closing ns s (gave x) f = gave-among ns x.gives
+call_among {S} {A} closing ns s (refused q) f = refused_among A ns q (f q refl)
+call_among {S} {A} closing ns s (gave x) f = gave_among ns x.gives
 
 -- of a PIV session
-pub concluded-among : {A : Type 0} (ns : List ℕ) (s : Session) (a : Answer (Outcome A)) → Among ns a → Among ns (concluded s a).answer
+pub concluded_among : {A : Type 0} (ns : List ℕ) (s : Session) (a : Answer (Outcome A)) → Among ns a → Among ns (concluded s a).answer
 unfolding concluded
-concluded-among ns s a f = call-among closed ns _ a f
+concluded_among ns s a f = call_among closed ns _ a f
 
 -- ---- places in an order of numbers
 

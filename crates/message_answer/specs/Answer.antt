@@ -12,11 +12,11 @@ Outcome A = any.Outcome Session A
 abbrev pub Out : Type 0 → Type 0
 Out A = any.Out Session A
 
-abbrev pub afterRefusal : Session → Refusal → Session
-afterRefusal s r = any.afterRefusal closed s r
+abbrev pub after_refusal : Session → Refusal → Session
+after_refusal s r = any.after_refusal closed s r
 
-abbrev pub notGiven : {A : Type 0} → Session → Refusal → Out A
-notGiven s r = any.notGiven closed s r
+abbrev pub not_given : {A : Type 0} → Session → Refusal → Out A
+not_given s r = any.not_given closed s r
 
 abbrev pub given : {A : Type 0} → Outcome A → Out A
 given o = any.given o

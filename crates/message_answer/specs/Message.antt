@@ -36,31 +36,31 @@ pub record CommandGiven : Type 0 where
 
 -- ---- the limits; src/lib.rt has each as a constant of the same name, but for the last, which is the session's own
 
-abbrev pub maxCommandData : ℕ
-maxCommandData = 2047
+abbrev pub max_command_data : ℕ
+max_command_data = 2047
 
-abbrev pub maxResponseData : ℕ
-maxResponseData = 16383
+abbrev pub max_response_data : ℕ
+max_response_data = 16383
 
 -- of fields that are read
-abbrev pub maxCommandField : ℕ
-maxCommandField = 2066
+abbrev pub max_command_field : ℕ
+max_command_field = 2066
 
-abbrev pub maxResponseField : ℕ
-maxResponseField = 16403
+abbrev pub max_response_field : ℕ
+max_response_field = 16403
 
 -- of encrypted data that is read
-abbrev pub maxCommandCiphertext : ℕ
-maxCommandCiphertext = 2048
+abbrev pub max_command_ciphertext : ℕ
+max_command_ciphertext = 2048
 
-abbrev pub maxResponseCiphertext : ℕ
-maxResponseCiphertext = 16384
+abbrev pub max_response_ciphertext : ℕ
+max_response_ciphertext = 16384
 
 -- commands in a session
-abbrev pub commandLimit : ℕ
-commandLimit = 65535
+abbrev pub command_limit : ℕ
+command_limit = 65535
 
 -- ---- SW1 of "more bytes are available"
 
-abbrev pub moreSw1 : ℕ
-moreSw1 = 0x61
+abbrev pub more_sw1 : ℕ
+more_sw1 = 0x61

@@ -52,13 +52,13 @@ given o = record { answer = gave o.gives; next = o.next }
 
 module _ {S : Type 0} (closed : S → S) where
   -- a wrong MAC and wrong padding close the session; every other refusal keeps it as it was
-  unfoldable pub afterRefusal : S → Refusal → S
-  afterRefusal s r = if closes r then closed s else s
+  unfoldable pub after_refusal : S → Refusal → S
+  after_refusal s r = if closes r then closed s else s
 
   -- a call that is refused
-  abbrev pub notGiven : {A : Type 0} → S → Refusal → Out S A
-  notGiven s r = record { answer = refused r; next = afterRefusal s r }
+  abbrev pub not_given : {A : Type 0} → S → Refusal → Out S A
+  not_given s r = record { answer = refused r; next = after_refusal s r }
 
   unfoldable pub concluded : {A : Type 0} → S → Answer (Outcome S A) → Out S A
-  concluded s (refused r) = notGiven s r
+  concluded s (refused r) = not_given s r
   concluded s (gave o) = given o

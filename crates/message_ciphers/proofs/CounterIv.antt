@@ -3,16 +3,16 @@ use mathlib.Core.Path.{◌≡◌, refl}
 use mathlib.Core.List.{[], ◌∷◌, ◌++◌}
 use mathlib.Core.Option.{Option}
 use Rattle.octets.specs.Bytes.{Bytes, zeros, ◌xor◌}
-use Rattle.field_padding.specs.Padding.{paddedLength, padding, pad, unpad}
-use Rattle.mode_cbc.specs.Cbc.{blocks, joined, encryptBlocks, decryptBlocks, cbcEncrypt, cbcDecrypt}
-use Rattle.message_ciphers.specs.Aes.{ciph, invCiph, encrypt, dataIn, decryptBlocks as decryptText, decrypt}
+use Rattle.field_padding.specs.Padding.{padded_length, padding, pad, unpad}
+use Rattle.mode_cbc.specs.Cbc.{blocks, joined, encrypt_blocks, decrypt_blocks, cbc_encrypt, cbc_decrypt}
+use Rattle.message_ciphers.specs.Aes.{ciph, inv_ciph, encrypt, data_in, decrypt_blocks as decryptText, decrypt}
 
 -- data of one byte is padded to a block, which is added to the encrypted counter and encrypted
-one-byte-encrypted : (k n : Bytes) → encrypt k n (0x31 ∷ []) ≡ ciph k ((0x31 ∷ 0x80 ∷ zeros 14) xor ciph k n) ++ []
-unfolding encrypt cbcEncrypt blocks joined encryptBlocks pad padding paddedLength
-one-byte-encrypted k n = refl
+one_byte_encrypted : (k n : Bytes) → encrypt k n (0x31 ∷ []) ≡ ciph k ((0x31 ∷ 0x80 ∷ zeros 14) xor ciph k n) ++ []
+unfolding encrypt cbc_encrypt blocks joined encrypt_blocks pad padding padded_length
+one_byte_encrypted k n = refl
 
 -- a block is decrypted, and added to the encrypted counter
-one-block-decrypted : (k n : Bytes) → let text = (invCiph k (zeros 16) xor ciph k n) ++ [] in decrypt k n (zeros 16) ≡ dataIn text (unpad text)
-unfolding decrypt decryptText cbcDecrypt blocks joined decryptBlocks
-one-block-decrypted k n = refl
+one_block_decrypted : (k n : Bytes) → let text = (inv_ciph k (zeros 16) xor ciph k n) ++ [] in decrypt k n (zeros 16) ≡ data_in text (unpad text)
+unfolding decrypt decryptText cbc_decrypt blocks joined decrypt_blocks
+one_block_decrypted k n = refl

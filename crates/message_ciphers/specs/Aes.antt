@@ -6,10 +6,10 @@ use Rattle.octets.specs.Choice.{if◌then◌else◌}
 use Rattle.field_padding.specs.Padding.{pad, unpad}
 use Rattle.field_padding.specs.declared.Unpadded.{Unpadded}
 use Rattle.field_padding.specs.declared.Unpadded.TheVariants.{Data, BadPadding}
-use Rattle.aes.specs.Aes.{aes, invAes}
+use Rattle.aes.specs.Aes.{aes, inv_aes}
 use Rattle.aes_key_expansion.specs.declared.KeySize.{KeySize}
 use Rattle.aes_key_expansion.specs.declared.KeySize.TheVariants.{Aes128, Aes256}
-use Rattle.mode_cbc.specs.Cbc.{cbcEncrypt, cbcDecrypt}
+use Rattle.mode_cbc.specs.Cbc.{cbc_encrypt, cbc_decrypt}
 use Rattle.mode_cmac.specs.Cmac.{cmac}
 use Rattle.message_ciphers.specs.Ciphers.{Ciphers}
 
@@ -20,23 +20,23 @@ size_of k = if eqb (length k) 16 then Aes128 else Aes256
 unfoldable pub ciph : Bytes → Bytes → Bytes
 ciph k = aes (size_of k) k
 
-unfoldable pub invCiph : Bytes → Bytes → Bytes
-invCiph k = invAes (size_of k) k
+unfoldable pub inv_ciph : Bytes → Bytes → Bytes
+inv_ciph k = inv_aes (size_of k) k
 
 -- CBC's IV is the counter encrypted with the same key
 unfoldable pub encrypt : Bytes → Bytes → Bytes → Bytes
-encrypt k n d = if eqb (length d) 0 then [] else cbcEncrypt (ciph k) (ciph k n) (pad d)
+encrypt k n d = if eqb (length d) 0 then [] else cbc_encrypt (ciph k) (ciph k n) (pad d)
 
 -- the data before the padding
-unfoldable pub dataIn : Bytes → Unpadded → Option Bytes
-dataIn padded (Data n) = some (take n padded)
-dataIn padded BadPadding = none
+unfoldable pub data_in : Bytes → Unpadded → Option Bytes
+data_in padded (Data n) = some (take n padded)
+data_in padded BadPadding = none
 
-unfoldable pub decryptBlocks : Bytes → Bytes → Bytes → Option Bytes
-decryptBlocks k n c = let padded = cbcDecrypt (invCiph k) (ciph k n) c in dataIn padded (unpad padded)
+unfoldable pub decrypt_blocks : Bytes → Bytes → Bytes → Option Bytes
+decrypt_blocks k n c = let padded = cbc_decrypt (inv_ciph k) (ciph k n) c in data_in padded (unpad padded)
 
 unfoldable pub decrypt : Bytes → Bytes → Bytes → Option Bytes
-decrypt k n c = if eqb (length c) 0 then some [] else decryptBlocks k n c
+decrypt k n c = if eqb (length c) 0 then some [] else decrypt_blocks k n c
 
-unfoldable pub aesCiphers : Ciphers
-aesCiphers = record { mac = λ k m. cmac (ciph k) m; encrypt = encrypt; decrypt = decrypt }
+unfoldable pub aes_ciphers : Ciphers
+aes_ciphers = record { mac = λ k m. cmac (ciph k) m; encrypt = encrypt; decrypt = decrypt }

@@ -3,7 +3,7 @@
 use Rattle.std.specs.Prelude.{◌≡◌, ◌⊎◌, length}
 use Rattle.std.proofs.Math.Option.{Option, some}
 use Rattle.octets.specs.Bytes.{Bytes, IsBytes}
-use Rattle.field_size.specs.Lengths.{ciphertextLength}
+use Rattle.field_size.specs.Lengths.{ciphertext_length}
 
 pub record Ciphers : Type 0 where
   -- the full MAC, 16 bytes, of a message under a key
@@ -24,6 +24,6 @@ pub record IsCounter (n : Bytes) : Type 0 where
   pub size : length n ≡ 16
 
 pub record Laws (C : Ciphers) : Type 0 where
-  pub mac-length : (k m : Bytes) → IsKey k → length (C.mac k m) ≡ 16
-  pub encrypt-length : (k n d : Bytes) → IsKey k → IsCounter n → IsBytes d → length (C.encrypt k n d) ≡ ciphertextLength (length d)
-  pub decrypt-encrypt : (k n d : Bytes) → IsKey k → IsCounter n → IsBytes d → C.decrypt k n (C.encrypt k n d) ≡ some d
+  pub mac_length : (k m : Bytes) → IsKey k → length (C.mac k m) ≡ 16
+  pub encrypt_length : (k n d : Bytes) → IsKey k → IsCounter n → IsBytes d → length (C.encrypt k n d) ≡ ciphertext_length (length d)
+  pub decrypt_encrypt : (k n d : Bytes) → IsKey k → IsCounter n → IsBytes d → C.decrypt k n (C.encrypt k n d) ≡ some d

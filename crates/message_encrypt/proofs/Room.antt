@@ -8,36 +8,36 @@ use lib.ListN.{length}
 use Rattle.octets.specs.Bytes.{Bytes}
 use Rattle.octets.specs.Choice.{if◌then◌else◌}
 use Rattle.octets.specs.Write.{Wrote}
-use Rattle.field_padding.specs.Padding.{paddedLength}
-use Rattle.field_write.specs.Objects.{encryptedData, commandObjects, responseObjects}
-use Rattle.field_size.specs.Lengths.{ciphertextLength, encryptedDataLength, commandLength, responseLength}
-use Rattle.field_write.proofs.FieldLengths.{length-encryptedData, length-leObject, length-commandObjects, length-responseObjects}
-use Rattle.session_suite.specs.StoredKeys.{keyIn}
+use Rattle.field_padding.specs.Padding.{padded_length}
+use Rattle.field_write.specs.Objects.{encrypted_data, command_objects, response_objects}
+use Rattle.field_size.specs.Lengths.{ciphertext_length, encrypted_data_length, command_length, response_length}
+use Rattle.field_write.proofs.FieldLengths.{length-encrypted_data, length-le_object, length_command_objects, length_response_objects}
+use Rattle.session_suite.specs.StoredKeys.{key_in}
 use Rattle.session_suite.specs.declared.Suite.{Suite}
 use Rattle.message_ciphers.specs.Aes.{encrypt}
-use Rattle.message_encrypt.proofs.Encrypted.{length-encrypt}
+use Rattle.message_encrypt.proofs.Encrypted.{length_encrypt}
 
 -- less than m blocks of data take at most m
-pub ciphertext-fits : (p m : ℕ) → p < 16 * m → ciphertextLength p ≤ 16 * m
-unfolding ciphertextLength paddedLength
-ciphertext-fits p m h = go (eqb p 0)
+pub ciphertext_fits : (p m : ℕ) → p < 16 * m → ciphertext_length p ≤ 16 * m
+unfolding ciphertext_length padded_length
+ciphertext_fits p m h = go (eqb p 0)
   where
     go : (t : Bool) → (if t then 0 else 16 * (p / 16 + 1)) ≤ 16 * m
     go true = omega arith
     go false = omega (arith, h)
 
 -- the objects of data that was encrypted, and 10 bytes for the MAC's
-module _ (suite : Suite) (key counter d : Bytes) (size : length key ≡ 32) {held out : Bytes} {n : ℕ} (w : Wrote held 0 (encrypt (keyIn suite key) counter d) n out) where
-  pub length-written : length (encrypt (keyIn suite key) counter d) ≡ ciphertextLength (length d)
-  length-written = length-encrypt suite key counter d size
+module _ (suite : Suite) (key counter d : Bytes) (size : length key ≡ 32) {held out : Bytes} {n : ℕ} (w : Wrote held 0 (encrypt (key_in suite key) counter d) n out) where
+  pub length_written : length (encrypt (key_in suite key) counter d) ≡ ciphertext_length (length d)
+  length_written = length_encrypt suite key counter d size
 
-  data-length : length (encryptedData (encrypt (keyIn suite key) counter d)) ≡ encryptedDataLength (ciphertextLength (length d))
-  data-length = length-encryptedData (encrypt (keyIn suite key) counter d) ∙ ap encryptedDataLength length-written
+  data_length_lem : length (encrypted_data (encrypt (key_in suite key) counter d)) ≡ encrypted_data_length (ciphertext_length (length d))
+  data_length_lem = length-encrypted_data (encrypt (key_in suite key) counter d) ∙ ap encrypted_data_length length_written
 
-  pub command-room : (le : Bool) → length (commandObjects (encrypt (keyIn suite key) counter d) le) + 10 ≡ commandLength (length d) le
-  unfolding commandLength
-  command-room le = ap (λ (k : ℕ). k + 10) (length-commandObjects (encrypt (keyIn suite key) counter d) le ∙ ap₂ ◌+◌ data-length (length-leObject le))
+  pub command_room : (le : Bool) → length (command_objects (encrypt (key_in suite key) counter d) le) + 10 ≡ command_length (length d) le
+  unfolding command_length
+  command_room le = ap (λ (k : ℕ). k + 10) (length_command_objects (encrypt (key_in suite key) counter d) le ∙ ap₂ ◌+◌ data_length_lem (length-le_object le))
 
-  pub response-room : (sw1 sw2 : ℕ) → length (responseObjects (encrypt (keyIn suite key) counter d) sw1 sw2) + 10 ≡ responseLength (length d)
-  unfolding responseLength
-  response-room sw1 sw2 = ap (λ (k : ℕ). k + 10) (length-responseObjects (encrypt (keyIn suite key) counter d) sw1 sw2 ∙ ap (λ (k : ℕ). k + 4) data-length)
+  pub response_room : (sw1 sw2 : ℕ) → length (response_objects (encrypt (key_in suite key) counter d) sw1 sw2) + 10 ≡ response_length (length d)
+  unfolding response_length
+  response_room sw1 sw2 = ap (λ (k : ℕ). k + 10) (length_response_objects (encrypt (key_in suite key) counter d) sw1 sw2 ∙ ap (λ (k : ℕ). k + 4) data_length_lem)

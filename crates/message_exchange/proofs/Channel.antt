@@ -10,17 +10,17 @@ use lib.Seq.{append_snoc, take_at}
 use Rattle.octets.specs.Bytes.{Bytes, IsBytes}
 use Rattle.field_laws.specs.Written.{WholeBlocks}
 use Rattle.message_answer.specs.Message.{Message}
-use Rattle.message_exchange.specs.Exchange.{Entry, Log, messages, inputs, Logs, Direction, wrapEntry, field_of, fieldsFrom, wraps, accepts, SameMessages, emptyLogs}
-use Rattle.message_exchange.proofs.Places.{messages-append, length-messages, member, AllMade, all-made-snoc, Next, Repeated, place}
+use Rattle.message_exchange.specs.Exchange.{Entry, Log, messages, inputs, Logs, Direction, wrapEntry, field_of, fieldsFrom, wraps, accepts, SameMessages, empty_logs}
+use Rattle.message_exchange.proofs.Places.{messages_append, length_messages, member, AllMade, all_made_snoc, Next, Repeated, place}
 
 -- ---- what is asked of a direction
 
 -- `first`: what the MAC input of the message after a log begins with; `decrypt`: the data of the message at a place
 pub record Lawful {H : Type 0} (D : Direction H) (first : Log H → Bytes) (decrypt : ℕ → Bytes → Option Bytes) : Type 0 where
   pub begins : (log : Log H) (h : H) (covered : Bytes) → (rest : Bytes) × (D.input log h covered ≡ first log ++ rest)
-  pub first-length : (log : Log H) → length (first log) ≡ 16
+  pub first_length : (log : Log H) → length (first log) ≡ 16
   pub blocks : (place : ℕ) (d : Bytes) → IsBytes d → length d < 65504 → WholeBlocks 65519 (D.encrypt place d)
-  pub decrypt-encrypt : (place : ℕ) (d : Bytes) → IsBytes d → decrypt place (D.encrypt place d) ≡ some d
+  pub decrypt_encrypt : (place : ℕ) (d : Bytes) → IsBytes d → decrypt place (D.encrypt place d) ≡ some d
 
 module _ {H : Type 0} (D : Direction H) where
   -- ---- fields handed out
@@ -35,7 +35,7 @@ module _ {H : Type 0} (D : Direction H) where
 
   -- an entry that a wrap added after a log
   pub record Made (log : Log H) (x : Entry H) : Type 0 where
-    pub input-is : x.input ≡ (wrapEntry D x.message log).input
+    pub input_is : x.input ≡ (wrapEntry D x.message log).input
     pub bytes : IsBytes x.message.payload
     pub short : length x.message.payload < 65504
 
@@ -46,29 +46,29 @@ module _ {H : Type 0} (D : Direction H) where
     pub made : AllMade Made [] l.wrapped
     pub written : l.fields ≡ fieldsFrom D 1 l.wrapped
 
-  pub channel-empty : Channel emptyLogs
+  pub channel_empty : Channel empty_logs
   unfolding fieldsFrom
-  channel-empty = record { more = []; is = refl; made = tt; written = refl }
+  channel_empty = record { more = []; is = refl; made = tt; written = refl }
 
   module _ (l : Logs H) (channel : Channel l) where
-    pub channel-length : length l.accepted ≤ length l.wrapped
-    channel-length = omega (arith, simp length-append at (ap length channel.is))
+    pub channel_length : length l.accepted ≤ length l.wrapped
+    channel_length = omega (arith, simp length-append at (ap length channel.is))
 
-    pub channel-messages : SameMessages l
-    channel-messages =
+    pub channel_messages : SameMessages l
+    channel_messages =
         sym (ap (λ (log : Log H). take (length l.accepted) (messages log)) (sym channel.is)
-        ∙ ap (take (length l.accepted)) (messages-append l.accepted channel.more)
-        ∙ take_at (messages l.accepted) (messages channel.more) (length l.accepted) (length-messages l.accepted))
+        ∙ ap (take (length l.accepted)) (messages_append l.accepted channel.more)
+        ∙ take_at (messages l.accepted) (messages channel.more) (length l.accepted) (length_messages l.accepted))
 
-    pub channel-wraps : (m : Message H) (field : Bytes) → IsBytes m.payload → length m.payload < 65504
+    pub channel_wraps : (m : Message H) (field : Bytes) → IsBytes m.payload → length m.payload < 65504
         → field ≡ field_of D (suc (length l.wrapped)) (wrapEntry D m l.wrapped) → Channel (wraps D m field l)
     unfolding wrapEntry
-    channel-wraps m field y short is =
+    channel_wraps m field y short is =
         let x : Entry H = wrapEntry D m l.wrapped in
         record {
           more = channel.more ++ x ∷ [];
           is = sym (append_assoc l.accepted channel.more (x ∷ [])) ∙ ap (λ (log : Log H). log ++ x ∷ []) channel.is;
-          made = all-made-snoc Made [] l.wrapped x channel.made (record { input-is = refl; bytes = y; short = short });
+          made = all_made_snoc Made [] l.wrapped x channel.made (record { input_is = refl; bytes = y; short = short });
           written =
               ap (λ (fs : List Bytes). fs ++ field ∷ []) channel.written
               ∙ ap (λ (f : Bytes). fieldsFrom D 1 l.wrapped ++ f ∷ []) is
@@ -90,9 +90,9 @@ module _ {H : Type 0} (D : Direction H) where
       abbrev x : Entry H
       x = record { message = m; input = i }
 
-      begins-so : (L : Log H) (y : Entry H) → Made L y → (rest : Bytes) × (y.input ≡ first L ++ rest)
+      begins_so : (L : Log H) (y : Entry H) → Made L y → (rest : Bytes) × (y.input ≡ first L ++ rest)
       unfolding wrapEntry
-      begins-so L y made = let b = law.begins L y.message.header _ in (b.0, made.input-is ∙ b.1)
+      begins_so L y made = let b = law.begins L y.message.header _ in (b.0, made.input_is ∙ b.1)
 
       took : Next Made A channel.more i → Channel (accepts x l)
       unfolding wrapEntry
@@ -111,19 +111,19 @@ module _ {H : Type 0} (D : Direction H) where
           ciphertext = D.encrypt (suc (length A)) n.payload
 
           parts : (m.header ≡ n.header) × (c ≡ ciphertext)
-          parts = reads n.header ciphertext (law.blocks (suc (length A)) n.payload t.made.bytes t.made.short) (sym t.same ∙ t.made.input-is)
+          parts = reads n.header ciphertext (law.blocks (suc (length A)) n.payload t.made.bytes t.made.short) (sym t.same ∙ t.made.input_is)
 
-          data-same : m.payload ≡ n.payload
-          data-same =
+          data_same : m.payload ≡ n.payload
+          data_same =
               let e : some m.payload ≡ some n.payload =
-              sym text ∙ ap (decrypt (suc (length A))) parts.1 ∙ law.decrypt-encrypt (suc (length A)) n.payload t.made.bytes in cc
+              sym text ∙ ap (decrypt (suc (length A))) parts.1 ∙ law.decrypt_encrypt (suc (length A)) n.payload t.made.bytes in cc
 
           whole : x ≡ t.entry
-          whole = λ j. record { message = record { header = parts.0 j; payload = data-same j }; input = sym t.same j }
+          whole = λ j. record { message = record { header = parts.0 j; payload = data_same j }; input = sym t.same j }
 
-      pub channel-accepts : Channel (accepts (record { message = m; input = D.input l.accepted m.header covered }) l)
+      pub channel_accepts : Channel (accepts (record { message = m; input = D.input l.accepted m.header covered }) l)
           ⊎ ((Memᴰ (D.input l.accepted m.header covered) (inputs l.wrapped) → ⊥) ⊎ Repeated first l.accepted l.wrapped)
-      channel-accepts = go (member i (inputs l.wrapped))
+      channel_accepts = go (member i (inputs l.wrapped))
         where
           b : (rest : Bytes) × (i ≡ first A ++ rest)
           b = law.begins A m.header covered
@@ -132,6 +132,6 @@ module _ {H : Type 0} (D : Direction H) where
               → Channel (accepts x l) ⊎ ((Memᴰ i (inputs l.wrapped) → ⊥) ⊎ Repeated first A l.wrapped)
           go (inr new) = inr (inl new)
           go (inl sent) =
-              elim (place first Made begins-so (λ L M. law.first-length L ∙ sym (law.first-length M)) A channel.more l.wrapped b.0
+              elim (place first Made begins_so (λ L M. law.first_length L ∙ sym (law.first_length M)) A channel.more l.wrapped b.0
               channel.is channel.made (rw b.1 at sent))
               [ inl next ↦ inl (took (rw b.1 next)) | inr again ↦ inr (inr again) ]

@@ -5,10 +5,10 @@ use Prim.Native.Nat.{ℕ}
 use native.Mathlib.Omega.{arith}
 use lib.ListN.{length, get_or}
 use Rattle.octets.specs.Bytes.{Bytes, zeros}
-use Rattle.field_ber_length.specs.Length.{lengthField}
-use Rattle.field_write.specs.Objects.{object, macObject}
+use Rattle.field_ber_length.specs.Length.{length_field}
+use Rattle.field_write.specs.Objects.{object, mac_object}
 use Rattle.message_answer.specs.Message.{Message}
-use Rattle.message_exchange.specs.Exchange.{Entry, Logs, Direction, wrapEntry, field_of, fieldsFrom, wraps, accepts, emptyLogs, Transcript, Agrees}
+use Rattle.message_exchange.specs.Exchange.{Entry, Logs, Direction, wrapEntry, field_of, fieldsFrom, wraps, accepts, empty_logs, Transcript, Agrees}
 
 -- the data with its place before it, objects with the header before them, an input with the log's length before it, and a MAC that is the input
 toy : Direction ℕ
@@ -37,24 +37,24 @@ x1 = record { message = m1; input = 0 ∷ 5 ∷ 1 ∷ 7 ∷ [] }
 
 -- one message wrapped and accepted; and then another wrapped, for which that field was handed out
 one : Logs ℕ
-one = accepts x1 (wraps toy m1 field1 emptyLogs)
+one = accepts x1 (wraps toy m1 field1 empty_logs)
 
 outstanding : Bytes → Transcript ℕ ℕ
 outstanding field = record { commands = wraps toy m2 field one; responses = one }
 
 record Computed : Type 0 where
   first_entry : wrapEntry toy m1 [] ≡ x1
-  second-entry : wrapEntry toy m2 (x1 ∷ []) ≡ record { message = m2; input = 1 ∷ 6 ∷ 2 ∷ 9 ∷ [] }
+  second_entry : wrapEntry toy m2 (x1 ∷ []) ≡ record { message = m2; input = 1 ∷ 6 ∷ 2 ∷ 9 ∷ [] }
   fields : fieldsFrom toy 1 (x1 ∷ wrapEntry toy m2 (x1 ∷ []) ∷ []) ≡ field1 ∷ field2 ∷ []
   agrees : Agrees toy toy (outstanding field2)
-  field-differs : Agrees toy toy (outstanding field1) → ⊥
+  field_differs : Agrees toy toy (outstanding field1) → ⊥
 
 computed : Computed
-unfolding lengthField object macObject wrapEntry field_of fieldsFrom toy m1 m2 field1 field2 x1 one outstanding
+unfolding length_field object mac_object wrapEntry field_of fieldsFrom toy m1 m2 field1 field2 x1 one outstanding
 computed =
     record {
       first_entry = refl;
-      second-entry = refl;
+      second_entry = refl;
       fields = refl;
       agrees =
           record {
@@ -62,10 +62,10 @@ computed =
             s≤a = omega arith;
             a≤w = omega arith;
             w≤r+1 = omega arith;
-            commandsAgree = refl;
-            responsesAgree = refl;
-            commandsWritten = refl;
-            responsesWritten = refl;
+            commands_agree = refl;
+            responses_agree = refl;
+            commands_written = refl;
+            responses_written = refl;
           };
-      field-differs = λ v. let e : ◌≡◌ {A = ℕ} 5 6 = ap (λ (fs : List Bytes). get_or (get_or fs 1 []) 0 0) v.commandsWritten in omega (arith, e);
+      field_differs = λ v. let e : ◌≡◌ {A = ℕ} 5 6 = ap (λ (fs : List Bytes). get_or (get_or fs 1 []) 0 0) v.commands_written in omega (arith, e);
     }

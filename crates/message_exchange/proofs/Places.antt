@@ -11,24 +11,24 @@ use Rattle.message_exchange.specs.Exchange.{Entry, Log, messages, inputs}
 
 -- ---- lists
 
-pub append-cut : {A : Type 0} (s t s' t' : List A) → s ++ t ≡ s' ++ t' → length s ≡ length s' → (s ≡ s') × (t ≡ t')
-append-cut s t s' t' e l = (
+pub append_cut : {A : Type 0} (s t s' t' : List A) → s ++ t ≡ s' ++ t' → length s ≡ length s' → (s ≡ s') × (t ≡ t')
+append_cut s t s' t' e l = (
   sym (take_at s t (length s') l) ∙ ap (take (length s')) e ∙ take_at s' t' (length s') refl,
   sym (drop_at s t (length s') l) ∙ ap (drop (length s')) e ∙ drop_at s' t' (length s') refl,
 )
 
-map-append : {A B : Type 0} (f : A → B) (s t : List A) → map f (s ++ t) ≡ map f s ++ map f t
-map-append f [] t = refl
-map-append f (x ∷ s) t = ap (f x ∷◌) (map-append f s t)
+map_append : {A B : Type 0} (f : A → B) (s t : List A) → map f (s ++ t) ≡ map f s ++ map f t
+map_append f [] t = refl
+map_append f (x ∷ s) t = ap (f x ∷◌) (map_append f s t)
 
-pub inputs-append : {H : Type 0} (s t : Log H) → inputs (s ++ t) ≡ inputs s ++ inputs t
-inputs-append s t = map-append (λ e. e.input) s t
+pub inputs_append : {H : Type 0} (s t : Log H) → inputs (s ++ t) ≡ inputs s ++ inputs t
+inputs_append s t = map_append (λ e. e.input) s t
 
-pub messages-append : {H : Type 0} (s t : Log H) → messages (s ++ t) ≡ messages s ++ messages t
-messages-append s t = map-append (λ e. e.message) s t
+pub messages_append : {H : Type 0} (s t : Log H) → messages (s ++ t) ≡ messages s ++ messages t
+messages_append s t = map_append (λ e. e.message) s t
 
-pub length-messages : {H : Type 0} (s : Log H) → length (messages s) ≡ length s
-length-messages s = length-map s (λ e. e.message)
+pub length_messages : {H : Type 0} (s : Log H) → length (messages s) ≡ length s
+length_messages s = length-map s (λ e. e.message)
 
 -- whether an input is one of those
 pub member : (i : Bytes) (l : List Bytes) → Memᴰ i l ⊎ (Memᴰ i l → ⊥)
@@ -48,9 +48,9 @@ module _ {H : Type 0} (Made : Log H → Entry H → Type 0) where
   AllMade before [] = Unit {0}
   AllMade before (x ∷ log) = Made before x × AllMade (before ++ x ∷ []) log
 
-  pub all-made-snoc : (before log : Log H) (e : Entry H) → AllMade before log → Made (before ++ log) e → AllMade before (log ++ e ∷ [])
-  all-made-snoc before [] e c m = (rw append-nil at m, tt)
-  all-made-snoc before (x ∷ log) e c m = (c.0, all-made-snoc (before ++ x ∷ []) log e c.1 (rw append_snoc m))
+  pub all_made_snoc : (before log : Log H) (e : Entry H) → AllMade before log → Made (before ++ log) e → AllMade before (log ++ e ∷ [])
+  all_made_snoc before [] e c m = (rw append-nil at m, tt)
+  all_made_snoc before (x ∷ log) e c m = (c.0, all_made_snoc (before ++ x ∷ []) log e c.1 (rw append_snoc m))
 
   record Found (log : Log H) (i : Bytes) : Type 0 where
     left : Log H
@@ -98,9 +98,9 @@ module _ {H : Type 0} (first : Log H → Bytes) where
           where
             by : Dec (length f.left ≡ length A) → Next Made A zs (first A ++ rest) ⊎ Repeated A W
             by (yes e) =
-                let c : (f.left ≡ A) × (f.entry ∷ f.right ≡ zs) = append-cut f.left (f.entry ∷ f.right) A zs (f.whole ∙ sym a) e in
+                let c : (f.left ≡ A) × (f.entry ∷ f.right ≡ zs) = append_cut f.left (f.entry ∷ f.right) A zs (f.whole ∙ sym a) e in
                 inl (record { entry = f.entry; more = f.right; is = sym c.1; made = rw c.0 at f.made; same = f.is })
             by (no n) =
                 let b = begins f.left f.entry f.made in
-                let e : first f.left ≡ first A = (append-cut (first f.left) b.0 (first A) rest (sym b.1 ∙ f.is) (sized f.left A)).0 in
+                let e : first f.left ≡ first A = (append_cut (first f.left) b.0 (first A) rest (sym b.1 ∙ f.is) (sized f.left A)).0 in
                 inr (record { left = f.left; entry = f.entry; right = f.right; whole = f.whole; elsewhere = n; same = e })

@@ -2,7 +2,7 @@
 -- logs ("rows") for each direction. A standard says what a direction is.
 use Rattle.std.specs.Prelude.{◌≡◌, List, [], ◌∷◌, ◌++◌, map, ℕ, suc, ◌+◌, ◌≤◌, length, take}
 use Rattle.octets.specs.Bytes.{Bytes}
-use Rattle.field_write.specs.Objects.{macObject}
+use Rattle.field_write.specs.Objects.{mac_object}
 use Rattle.message_answer.specs.Message.{Message}
 
 -- ---- one direction
@@ -50,7 +50,7 @@ module _ {H : Type 0} (D : Direction H) where
 
   -- the field of an entry: the objects, and '8E' with the first 8 bytes of the input's full MAC
   unfoldable pub field_of : ℕ → Entry H → Bytes
-  field_of place e = objectsAt place e.message ++ macObject (take 8 (D.mac e.input))
+  field_of place e = objectsAt place e.message ++ mac_object (take 8 (D.mac e.input))
 
   -- the fields of a log whose first entry stands at that place
   unfoldable pub fieldsFrom : ℕ → Log H → List Bytes
@@ -77,11 +77,11 @@ pub record Transcript (H R : Type 0) : Type 0 where
   pub commands : Logs H
   pub responses : Logs R
 
-abbrev pub emptyLogs : {H : Type 0} → Logs H
-emptyLogs = record { wrapped = []; fields = []; accepted = [] }
+abbrev pub empty_logs : {H : Type 0} → Logs H
+empty_logs = record { wrapped = []; fields = []; accepted = [] }
 
 abbrev pub empty : {H R : Type 0} → Transcript H R
-empty = record { commands = emptyLogs; responses = emptyLogs }
+empty = record { commands = empty_logs; responses = empty_logs }
 
 -- with w commands wrapped, a accepted, s responses wrapped and r accepted, r ≤ s ≤ a ≤ w ≤ r + 1; and in each direction
 -- the same messages at the same places, and for each wrap the field of its entry
@@ -90,7 +90,7 @@ pub record Agrees {H R : Type 0} (commands : Direction H) (responses : Direction
   pub s≤a : length t.responses.wrapped ≤ length t.commands.accepted
   pub a≤w : length t.commands.accepted ≤ length t.commands.wrapped
   pub w≤r+1 : length t.commands.wrapped ≤ length t.responses.accepted + 1
-  pub commandsAgree : SameMessages t.commands
-  pub responsesAgree : SameMessages t.responses
-  pub commandsWritten : t.commands.fields ≡ fieldsFrom commands 1 t.commands.wrapped
-  pub responsesWritten : t.responses.fields ≡ fieldsFrom responses 1 t.responses.wrapped
+  pub commands_agree : SameMessages t.commands
+  pub responses_agree : SameMessages t.responses
+  pub commands_written : t.commands.fields ≡ fieldsFrom commands 1 t.commands.wrapped
+  pub responses_written : t.responses.fields ≡ fieldsFrom responses 1 t.responses.wrapped

@@ -4,6 +4,6 @@ use Rattle.session_suite.specs.declared.Suite.TheVariants.{Cs2, Cs7}
 use Rattle.aes_key_expansion.specs.declared.KeySize.{KeySize}
 use Rattle.aes_key_expansion.specs.declared.KeySize.TheVariants.{Aes128, Aes256}
 
-abbrev pub keySize : Suite → KeySize
-keySize Cs2 = Aes128
-keySize Cs7 = Aes256
+abbrev pub key_size : Suite → KeySize
+key_size Cs2 = Aes128
+key_size Cs7 = Aes256

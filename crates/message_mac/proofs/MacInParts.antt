@@ -7,22 +7,22 @@ use Rattle.aes_key_expansion.specs.KeyExpansion.{schedule}
 use Rattle.aes.specs.Aes.{ciph as scheduleCiph}
 use Rattle.mode_cmac.specs.Cmac.{cmac}
 use Rattle.mode_cmac.specs.Running.{start, absorb, finish}
-use Rattle.mode_cmac.proofs.Theorems.{absorb-append, cmac-aes}
-use Rattle.session_suite.specs.StoredKeys.{keyIn}
+use Rattle.mode_cmac.proofs.Theorems.{absorb_append, cmac_aes}
+use Rattle.session_suite.specs.StoredKeys.{key_in}
 use Rattle.session_suite.specs.declared.Suite.{Suite}
 use Rattle.message_ciphers.specs.Aes.{ciph}
-use Rattle.message_key.specs.SessionKeys.{keySize}
-use Rattle.message_key.proofs.SessionCiphers.{same-cipher}
+use Rattle.message_key.specs.SessionKeys.{key_size}
+use Rattle.message_key.proofs.SessionCiphers.{same_cipher}
 
 module _ (suite : Suite) (key : Bytes) (h : length key ≡ 32) where
   abbrev c : Bytes → Bytes
-  c = scheduleCiph (keySize suite) (schedule (keySize suite) key)
+  c = scheduleCiph (key_size suite) (schedule (key_size suite) key)
 
-  pub in-two-parts : (a b : Bytes) → finish c (absorb c (absorb c start a) b) ≡ cmac (ciph (keyIn suite key)) (a ++ b)
-  in-two-parts a b =
-      ap (finish c) (sym (absorb-append c start a b))
-      ∙ cmac-aes (keySize suite) (schedule (keySize suite) key) (a ++ b)
-      ∙ ap (λ (f : Bytes → Bytes). cmac f (a ++ b)) (same-cipher suite key h)
+  pub in_two_parts : (a b : Bytes) → finish c (absorb c (absorb c start a) b) ≡ cmac (ciph (key_in suite key)) (a ++ b)
+  in_two_parts a b =
+      ap (finish c) (sym (absorb_append c start a b))
+      ∙ cmac_aes (key_size suite) (schedule (key_size suite) key) (a ++ b)
+      ∙ ap (λ (f : Bytes → Bytes). cmac f (a ++ b)) (same_cipher suite key h)
 
-  pub in-three-parts : (a b d : Bytes) → finish c (absorb c (absorb c (absorb c start a) b) d) ≡ cmac (ciph (keyIn suite key)) (a ++ b ++ d)
-  in-three-parts a b d = ap (λ s. finish c (absorb c s d)) (sym (absorb-append c start a b)) ∙ in-two-parts (a ++ b) d
+  pub in_three_parts : (a b d : Bytes) → finish c (absorb c (absorb c (absorb c start a) b) d) ≡ cmac (ciph (key_in suite key)) (a ++ b ++ d)
+  in_three_parts a b d = ap (λ s. finish c (absorb c s d)) (sym (absorb_append c start a b)) ∙ in_two_parts (a ++ b) d

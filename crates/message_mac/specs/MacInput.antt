@@ -3,12 +3,12 @@ use Rattle.std.specs.Prelude.{◌∷◌, ◌++◌, ℕ}
 use Rattle.octets.specs.Bytes.{Bytes, zeros}
 
 -- CLA '0C', INS, P1, P2, padded to a block
-unfoldable pub encodedHeader : ℕ → ℕ → ℕ → Bytes
-encodedHeader ins p1 p2 = 0x0C ∷ ins ∷ p1 ∷ p2 ∷ 0x80 ∷ zeros 11
+unfoldable pub encoded_header : ℕ → ℕ → ℕ → Bytes
+encoded_header ins p1 p2 = 0x0C ∷ ins ∷ p1 ∷ p2 ∷ 0x80 ∷ zeros 11
 
 -- the MAC chaining value, the encoded header, and the field's bytes before '8E'
-unfoldable pub commandMacInput : Bytes → ℕ → ℕ → ℕ → Bytes → Bytes
-commandMacInput chaining ins p1 p2 covered = chaining ++ encodedHeader ins p1 p2 ++ covered
+unfoldable pub command_mac_input : Bytes → ℕ → ℕ → ℕ → Bytes → Bytes
+command_mac_input chaining ins p1 p2 covered = chaining ++ encoded_header ins p1 p2 ++ covered
 
-unfoldable pub responseMacInput : Bytes → Bytes → Bytes
-responseMacInput chaining covered = chaining ++ covered
+unfoldable pub response_mac_input : Bytes → Bytes → Bytes
+response_mac_input chaining covered = chaining ++ covered

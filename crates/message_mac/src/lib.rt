@@ -1,9 +1,9 @@
 // The MAC of a message (SP 800-73-4 Part 2, 4.2.3 and 4.2.5): the full MAC over the field's bytes where they stand, the eight bytes
 // of it that '8E' holds, and the comparison with those received.
 ghost use Rattle.std.specs.Prelude.{◌≡◌, length, take};
-ghost use Rattle.message_mac.specs.MacInput.{encodedHeader, responseMacInput, commandMacInput};
+ghost use Rattle.message_mac.specs.MacInput.{encoded_header, response_mac_input, command_mac_input};
 ghost use Rattle.message_mac.specs.Same.{same};
-ghost use Rattle.session_suite.specs.StoredKeys.{keyIn};
+ghost use Rattle.session_suite.specs.StoredKeys.{key_in};
 ghost use Rattle.mode_cmac.specs.Cmac.{cmac};
 ghost use Rattle.message_ciphers.specs.Aes.{ciph};
 
@@ -14,7 +14,7 @@ use session_suite::Suite;
 
 // The second block of a command's MAC input. CLA is 0C here, for a chained command too.
 fn encoded_header(ins: u8, p1: u8, p2: u8) -> [u8; 16]
-    ensures { result ≡ encodedHeader ins p1 p2 }
+    ensures { result ≡ encoded_header ins p1 p2 }
 {
     [0x0C, ins, p1, p2, 0x80, 0, 0, 0, 0, 0, 0, 0, 0, 0, 0, 0]
 }
@@ -29,7 +29,7 @@ pub fn command_mac(
     p2: u8,
     covered: &[u8],
 ) -> [u8; 16]
-    ensures { result ≡ cmac (ciph (keyIn suite sk_mac)) (commandMacInput mcv ins p1 p2 covered.now) }
+    ensures { result ≡ cmac (ciph (key_in suite sk_mac)) (command_mac_input mcv ins p1 p2 covered.now) }
 {
     let w = expanded(suite, sk_mac);
     let size = key_size(suite);
@@ -42,7 +42,7 @@ pub fn command_mac(
 
 // The full MAC of a response: over its chaining value, and the field's bytes before '8E'.
 pub fn response_mac(suite: Suite, sk_rmac: [u8; 32], mcv: [u8; 16], covered: &[u8]) -> [u8; 16]
-    ensures { result ≡ cmac (ciph (keyIn suite sk_rmac)) (responseMacInput mcv covered.now) }
+    ensures { result ≡ cmac (ciph (key_in suite sk_rmac)) (response_mac_input mcv covered.now) }
 {
     let w = expanded(suite, sk_rmac);
     let size = key_size(suite);

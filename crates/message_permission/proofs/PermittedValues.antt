@@ -6,18 +6,18 @@ use mathlib.Core.List.{[], ◌∷◌}
 use Prim.Native.Nat.{ℕ}
 use Rattle.octets.proofs.Chosen.{chosen}
 use Rattle.message_answer.specs.Message.{header, status}
-use Rattle.message_permission.specs.Permission.{insPermitted, leNeed, dataNeed, commandPermitted, statusPermitted}
+use Rattle.message_permission.specs.Permission.{ins_permitted, le_need, data_need, command_permitted, status_permitted}
 
 record Computed : Type 0 where
   -- VERIFY, CHANGE REFERENCE DATA, GENERAL AUTHENTICATE, GET DATA
-  ins : chosen insPermitted 256 ≡ 0x20 ∷ 0x24 ∷ 0x87 ∷ 0xCB ∷ []
-  with-le : chosen (λ (ins : ℕ). commandPermitted (header ins 0x00 0x00 true) 1) 256 ≡ 0x87 ∷ 0xCB ∷ []
-  without-le : chosen (λ (ins : ℕ). commandPermitted (header ins 0x00 0x00 false) 1) 256 ≡ 0x20 ∷ 0x24 ∷ 0x87 ∷ []
-  without-data : chosen (λ (ins : ℕ). commandPermitted (header ins 0x00 0x00 false) 0) 256 ≡ 0x20 ∷ []
-  with-le-alone : chosen (λ (ins : ℕ). commandPermitted (header ins 0x00 0x00 true) 0) 256 ≡ []
+  ins : chosen ins_permitted 256 ≡ 0x20 ∷ 0x24 ∷ 0x87 ∷ 0xCB ∷ []
+  with_le : chosen (λ (ins : ℕ). command_permitted (header ins 0x00 0x00 true) 1) 256 ≡ 0x87 ∷ 0xCB ∷ []
+  without_le : chosen (λ (ins : ℕ). command_permitted (header ins 0x00 0x00 false) 1) 256 ≡ 0x20 ∷ 0x24 ∷ 0x87 ∷ []
+  without_data : chosen (λ (ins : ℕ). command_permitted (header ins 0x00 0x00 false) 0) 256 ≡ 0x20 ∷ []
+  with_le_alone : chosen (λ (ins : ℕ). command_permitted (header ins 0x00 0x00 true) 0) 256 ≡ []
   -- SW1 of a status that a card may not wrap
-  sw1 : chosen (λ (sw1 : ℕ). not (statusPermitted (status sw1 0x00))) 256 ≡ 0x61 ∷ []
+  sw1 : chosen (λ (sw1 : ℕ). not (status_permitted (status sw1 0x00))) 256 ≡ 0x61 ∷ []
 
 computed : Computed
-unfolding chosen insPermitted leNeed dataNeed commandPermitted statusPermitted
-computed = record { ins = refl; with-le = refl; without-le = refl; without-data = refl; with-le-alone = refl; sw1 = refl }
+unfolding chosen ins_permitted le_need data_need command_permitted status_permitted
+computed = record { ins = refl; with_le = refl; without_le = refl; without_data = refl; with_le_alone = refl; sw1 = refl }

@@ -1,7 +1,7 @@
 // Which INS and statuses are permitted, what Le and data each INS takes, and what a field is read for (document 01, "Objects, encryption and MAC").
 ghost use Rattle.std.specs.Prelude.{◌≡◌, ◌<◌};
 ghost use Rattle.message_answer.specs.Message.{status, header};
-ghost use Rattle.message_permission.specs.Permission.{insPermitted, leNeed, dataNeed, statusPermitted, commandWanted, responseWanted, commandPermitted};
+ghost use Rattle.message_permission.specs.Permission.{ins_permitted, le_need, data_need, status_permitted, command_wanted, response_wanted, command_permitted};
 ghost use Rattle.field_expected.specs.Wanted.{suits};
 
 use field_expected::{Need, Second, Wanted};
@@ -16,7 +16,7 @@ const GET_DATA: u8 = 0xCB;
 const GENERAL_AUTHENTICATE: u8 = 0x87;
 
 pub fn ins_permitted(ins: u8) -> bool
-    ensures { result ≡ insPermitted ins }
+    ensures { result ≡ ins_permitted ins }
 {
     if ins == VERIFY {
         return true;
@@ -32,7 +32,7 @@ pub fn ins_permitted(ins: u8) -> bool
 
 // Whether a command has, may have or must not have Le.
 fn le_need(ins: u8) -> Need
-    ensures { result ≡ leNeed ins }
+    ensures { result ≡ le_need ins }
 {
     if ins == GET_DATA {
         return Need::Must;
@@ -45,7 +45,7 @@ fn le_need(ins: u8) -> Need
 
 // Only VERIFY may lack data.
 fn data_need(ins: u8) -> Need
-    ensures { result ≡ dataNeed ins }
+    ensures { result ≡ data_need ins }
 {
     if ins != VERIFY {
         return Need::Must;
@@ -66,7 +66,7 @@ fn suits(need: Need, there: bool) -> bool
 
 // Whether a command with n bytes of data is permitted: its INS, and whether Le and data suit it.
 pub fn command_permitted(ins: u8, p1: u8, p2: u8, le: bool, n: usize) -> bool
-    ensures { result ≡ commandPermitted (header ins p1 p2 le) n }
+    ensures { result ≡ command_permitted (header ins p1 p2 le) n }
 {
     if ins_permitted(ins) {
         if suits(data_need(ins), 0 < n) {
@@ -78,14 +78,14 @@ pub fn command_permitted(ins: u8, p1: u8, p2: u8, le: bool, n: usize) -> bool
 
 // A card may not wrap a status with SW1 '61'.
 pub fn status_permitted(sw1: u8, sw2: u8) -> bool
-    ensures { result ≡ statusPermitted (status sw1 sw2) }
+    ensures { result ≡ status_permitted (status sw1 sw2) }
 {
     sw1 != MORE_SW1
 }
 
 // What a command's field is read for.
 pub fn command_wanted(ins: u8) -> Wanted
-    ensures { result ≡ commandWanted ins }
+    ensures { result ≡ command_wanted ins }
 {
     let data = data_need(ins);
     let le = le_need(ins);
@@ -98,7 +98,7 @@ pub fn command_wanted(ins: u8) -> Wanted
 
 // What a response's field is read for, beside a status word.
 pub fn response_wanted(sw1: u8, sw2: u8) -> Wanted
-    ensures { result ≡ responseWanted (status sw1 sw2) }
+    ensures { result ≡ response_wanted (status sw1 sw2) }
 {
     Wanted {
         data: Need::May,

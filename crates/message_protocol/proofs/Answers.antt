@@ -10,18 +10,18 @@ use lib.ListN.{replicate}
 use Rattle.octets.specs.Bytes.{Bytes, zeros}
 use Rattle.octets.specs.Choice.{if◌then◌else◌}
 use Rattle.message_mac.specs.Same.{same}
-use Rattle.field_padding.specs.Padding.{padding, pad, paddedLength, marked, markBefore, unpad}
-use Rattle.field_ber_length.specs.Length.{lengthField, readLength, isShortest}
+use Rattle.field_padding.specs.Padding.{padding, pad, padded_length, marked, mark_before, unpad}
+use Rattle.field_ber_length.specs.Length.{length_field, read_length, is_shortest}
 use Rattle.field_expected.specs.Wanted.{rank, allowed}
-use Rattle.field_object.specs.Values.{rightSize, rightSecond, rightValue}
-use Rattle.field_object.specs.Object.{require◌else◌⨾◌ as need◌else◌⨾◌, withLength, readObject}
-use Rattle.field_read.specs.Field.{noted as notedObject, ended, onObject, walk, readField}
-use Rattle.field_write.specs.Objects.{object, encryptedData, leObject, statusWord, macObject, commandObjects, responseObjects, commandField, responseField}
-use Rattle.field_size.specs.Lengths.{ciphertextLength, encryptedDataLength, commandLength, responseLength}
-use Rattle.message_mac.specs.MacInput.{encodedHeader, commandMacInput, responseMacInput}
-use Rattle.session_rules.specs.Valid.{keepsPhase, valid, countsAsOpen}
-use Rattle.session_rules.specs.ZeroBytes.{allZero, keysEnd, keysZero, mcvsZero}
-use Rattle.session_turn.specs.Turn.{isTurn}
+use Rattle.field_object.specs.Values.{right_size, right_second, right_value}
+use Rattle.field_object.specs.Object.{require◌else◌⨾◌ as need◌else◌⨾◌, with_length, read_object}
+use Rattle.field_read.specs.Field.{noted as notedObject, ended, on_object, walk, read_field}
+use Rattle.field_write.specs.Objects.{object, encrypted_data, le_object, status_word, mac_object, command_objects, response_objects, command_field, response_field}
+use Rattle.field_size.specs.Lengths.{ciphertext_length, encrypted_data_length, command_length, response_length}
+use Rattle.message_mac.specs.MacInput.{encoded_header, command_mac_input, response_mac_input}
+use Rattle.session_rules.specs.Valid.{keeps_phase, valid, counts_as_open}
+use Rattle.session_rules.specs.ZeroBytes.{all_zero, keys_end, keys_zero, mcvs_zero}
+use Rattle.session_turn.specs.Turn.{is_turn}
 use Rattle.session.specs.declared.Side.{Side}
 use Rattle.session.specs.declared.Side.TheVariants.{Host, Card}
 use Rattle.session.specs.declared.Phase.{Phase}
@@ -31,15 +31,15 @@ use Rattle.session.specs.declared.Session.{Session}
 use Rattle.refusal.specs.Refusal.{number, extra}
 use Rattle.message_ciphers.specs.Ciphers.{Ciphers}
 use Rattle.message_answer.specs.Message.{CommandHeader, StatusWord, Response, CommandGiven}
-use Rattle.message_permission.specs.Permission.{insPermitted, leNeed, dataNeed, commandPermitted, statusPermitted, commandWanted, responseWanted}
-use Rattle.octets_numbers.specs.BigEndian.{bigEndian}
-use Rattle.message_counter.specs.Counter.{commandCounter, responseCounter}
+use Rattle.message_permission.specs.Permission.{ins_permitted, le_need, data_need, command_permitted, status_permitted, command_wanted, response_wanted}
+use Rattle.octets_numbers.specs.BigEndian.{big_endian}
+use Rattle.message_counter.specs.Counter.{command_counter, response_counter}
 use Rattle.message_answer.specs.Answer.{Answer, refused, gave, Out, require◌else◌⨾◌, ◌and-then◌, concluded}
-use Rattle.message_answer.specs.Outcome.{afterRefusal}
-use Rattle.message_verify.specs.Reading.{objectsOf, text_of}
-use Rattle.message_verify.specs.VerifiedText.{verifiedText}
-use Rattle.message_protocol.specs.Command.{commandInput, wrapCommandChecks, unwrapCommandChecks, commandMac, commandAccepted, openCommand, cardUnwraps}
-use Rattle.message_protocol.specs.Response.{wrapResponseChecks, unwrapResponseChecks, responseMac, responseAccepted, openResponse, hostUnwraps}
+use Rattle.message_answer.specs.Outcome.{after_refusal}
+use Rattle.message_verify.specs.Reading.{objects_of, text_of}
+use Rattle.message_verify.specs.VerifiedText.{verified_text}
+use Rattle.message_protocol.specs.Command.{command_input, wrap_command_checks, unwrap_command_checks, commandMac, command_accepted, open_command, cardUnwraps}
+use Rattle.message_protocol.specs.Response.{wrap_response_checks, unwrap_response_checks, responseMac, response_accepted, open_response, hostUnwraps}
 
 -- number and extra; nothing where the call is not refused
 numbers : {A : Type 0} → Answer A → List ℕ
@@ -72,13 +72,13 @@ sw : StatusWord
 sw = record { sw1 = 0x6A; sw2 = 0x82 }
 
 field : ℕ → Bytes
-field b = commandField (replicate 16 9) false (replicate 8 b)
+field b = command_field (replicate 16 9) false (replicate 8 b)
 
 reply : ℕ → Bytes
-reply b = responseField (replicate 16 9) 0x6A 0x82 (replicate 8 b)
+reply b = response_field (replicate 16 9) 0x6A 0x82 (replicate 8 b)
 
-phaseOf : Session → List ℕ
-phaseOf s = s.count ∷ (if countsAsOpen s then 1 else 0) ∷ []
+phase_of : Session → List ℕ
+phase_of s = s.count ∷ (if counts_as_open s then 1 else 0) ∷ []
 
 card : Bytes → ℕ → Out CommandGiven
 card f room = cardUnwraps bad (at Card Ready 3) 0x20 0 0 f room
@@ -87,71 +87,71 @@ host : Bytes → ℕ → Out Response
 host f room = hostUnwraps bad (at Host Pending 3) sw f room
 
 record Answered : Type 0 where
-  counter-1 : commandCounter 1 ≡ zeros 15 ++ 1 ∷ []
-  counter-258 : commandCounter 258 ≡ zeros 14 ++ 1 ∷ 2 ∷ []
-  response-258 : responseCounter 258 ≡ 0x80 ∷ zeros 13 ++ 1 ∷ 2 ∷ []
+  counter_1 : command_counter 1 ≡ zeros 15 ++ 1 ∷ []
+  counter_258 : command_counter 258 ≡ zeros 14 ++ 1 ∷ 2 ∷ []
+  response_258 : response_counter 258 ≡ 0x80 ∷ zeros 13 ++ 1 ∷ 2 ∷ []
   -- with and without data, without and with Le
-  permits : map (λ ins. map (λ le. map (commandPermitted (head ins le)) (0 ∷ 1 ∷ [])) (false ∷ true ∷ [])) (0x20 ∷ 0x24 ∷ 0xCB ∷ 0x87 ∷ 0x22 ∷ [])
+  permits : map (λ ins. map (λ le. map (command_permitted (head ins le)) (0 ∷ 1 ∷ [])) (false ∷ true ∷ [])) (0x20 ∷ 0x24 ∷ 0xCB ∷ 0x87 ∷ 0x22 ∷ [])
       ≡ ((true ∷ true ∷ []) ∷ (false ∷ false ∷ []) ∷ [])
       ∷ ((false ∷ true ∷ []) ∷ (false ∷ false ∷ []) ∷ [])
       ∷ ((false ∷ false ∷ []) ∷ (false ∷ true ∷ []) ∷ [])
       ∷ ((false ∷ true ∷ []) ∷ (false ∷ true ∷ []) ∷ [])
       ∷ ((false ∷ false ∷ []) ∷ (false ∷ false ∷ []) ∷ []) ∷ []
   -- the host wraps
-  w1 : numbers (wrapCommandChecks (at Card Closed 9) (head 0x22 false) 2048 0) ≡ 1 ∷ 0 ∷ []
-  w2 : numbers (wrapCommandChecks (at Card Ready 65535) (head 0x22 false) 2048 0) ≡ 2 ∷ 0 ∷ []
-  w3 : numbers (wrapCommandChecks (at Host Ready 65535) (head 0x22 false) 2048 0) ≡ 3 ∷ 0 ∷ []
-  w4 : numbers (wrapCommandChecks (at Host Ready 65535) (head 0xCB true) 2048 0) ≡ 4 ∷ 0 ∷ []
-  w5 : numbers (wrapCommandChecks (at Host Ready 65535) (head 0xCB true) 2047 0) ≡ 5 ∷ 0 ∷ []
-  w6 : numbers (wrapCommandChecks (at Host Ready 65534) (head 0xCB true) 2047 2065) ≡ 6 ∷ 2066 ∷ []
-  w : numbers (wrapCommandChecks (at Host Ready 65534) (head 0xCB true) 2047 2066) ≡ []
+  w1 : numbers (wrap_command_checks (at Card Closed 9) (head 0x22 false) 2048 0) ≡ 1 ∷ 0 ∷ []
+  w2 : numbers (wrap_command_checks (at Card Ready 65535) (head 0x22 false) 2048 0) ≡ 2 ∷ 0 ∷ []
+  w3 : numbers (wrap_command_checks (at Host Ready 65535) (head 0x22 false) 2048 0) ≡ 3 ∷ 0 ∷ []
+  w4 : numbers (wrap_command_checks (at Host Ready 65535) (head 0xCB true) 2048 0) ≡ 4 ∷ 0 ∷ []
+  w5 : numbers (wrap_command_checks (at Host Ready 65535) (head 0xCB true) 2047 0) ≡ 5 ∷ 0 ∷ []
+  w6 : numbers (wrap_command_checks (at Host Ready 65534) (head 0xCB true) 2047 2065) ≡ 6 ∷ 2066 ∷ []
+  w : numbers (wrap_command_checks (at Host Ready 65534) (head 0xCB true) 2047 2066) ≡ []
   -- the card unwraps
-  u1 : numbers (unwrapCommandChecks (at Host Closed 9) 0x22 2067) ≡ 1 ∷ 0 ∷ []
-  u2 : numbers (unwrapCommandChecks (at Host Ready 65535) 0x22 2067) ≡ 2 ∷ 0 ∷ []
-  u3 : numbers (unwrapCommandChecks (at Card Ready 65535) 0x22 2067) ≡ 3 ∷ 0 ∷ []
-  u4 : numbers (unwrapCommandChecks (at Card Ready 65535) 0x24 2067) ≡ 4 ∷ 0 ∷ []
-  u5 : numbers (unwrapCommandChecks (at Card Ready 65535) 0x24 2066) ≡ 5 ∷ 0 ∷ []
-  u : numbers (unwrapCommandChecks (at Card Ready 65534) 0x24 2066) ≡ []
+  u1 : numbers (unwrap_command_checks (at Host Closed 9) 0x22 2067) ≡ 1 ∷ 0 ∷ []
+  u2 : numbers (unwrap_command_checks (at Host Ready 65535) 0x22 2067) ≡ 2 ∷ 0 ∷ []
+  u3 : numbers (unwrap_command_checks (at Card Ready 65535) 0x22 2067) ≡ 3 ∷ 0 ∷ []
+  u4 : numbers (unwrap_command_checks (at Card Ready 65535) 0x24 2067) ≡ 4 ∷ 0 ∷ []
+  u5 : numbers (unwrap_command_checks (at Card Ready 65535) 0x24 2066) ≡ 5 ∷ 0 ∷ []
+  u : numbers (unwrap_command_checks (at Card Ready 65534) 0x24 2066) ≡ []
   u7 : numbers (card (0x97 ∷ []) 0).answer ≡ 7 ∷ 0 ∷ []
   u8 : numbers (card [] 0).answer ≡ 8 ∷ 0 ∷ []
   -- VERIFY with '97', GET DATA without it, CHANGE REFERENCE DATA without data
-  u7-le : numbers (cardUnwraps bad (at Card Ready 3) 0x20 0 0 (commandField [] true (zeros 8)) 0).answer ≡ 7 ∷ 0 ∷ []
-  u8-le : numbers (cardUnwraps bad (at Card Ready 3) 0xCB 0 0 (field 0) 0).answer ≡ 8 ∷ 0 ∷ []
-  u8-data : numbers (cardUnwraps bad (at Card Ready 3) 0x24 0 0 (commandField [] false (zeros 8)) 0).answer ≡ 8 ∷ 0 ∷ []
+  u7_le : numbers (cardUnwraps bad (at Card Ready 3) 0x20 0 0 (command_field [] true (zeros 8)) 0).answer ≡ 7 ∷ 0 ∷ []
+  u8_le : numbers (cardUnwraps bad (at Card Ready 3) 0xCB 0 0 (field 0) 0).answer ≡ 8 ∷ 0 ∷ []
+  u8_data : numbers (cardUnwraps bad (at Card Ready 3) 0x24 0 0 (command_field [] false (zeros 8)) 0).answer ≡ 8 ∷ 0 ∷ []
   u6 : numbers (card (field 1) 15).answer ≡ 6 ∷ 16 ∷ []
   u9 : numbers (card (field 1) 16).answer ≡ 9 ∷ 0 ∷ []
   u10 : numbers (card (field 0) 16).answer ≡ 10 ∷ 0 ∷ []
-  u6-left : phaseOf (card (field 1) 15).next ≡ 3 ∷ 1 ∷ []
-  u9-left : phaseOf (card (field 1) 16).next ≡ 0 ∷ 0 ∷ []
-  u10-left : phaseOf (card (field 0) 16).next ≡ 0 ∷ 0 ∷ []
+  u6_left : phase_of (card (field 1) 15).next ≡ 3 ∷ 1 ∷ []
+  u9_left : phase_of (card (field 1) 16).next ≡ 0 ∷ 0 ∷ []
+  u10_left : phase_of (card (field 0) 16).next ≡ 0 ∷ 0 ∷ []
   -- the card wraps
-  v1 : numbers (wrapResponseChecks (at Host Closed 9) (record { sw1 = 0x61; sw2 = 0 }) 16384 0) ≡ 1 ∷ 0 ∷ []
-  v2 : numbers (wrapResponseChecks (at Host Pending 2) (record { sw1 = 0x61; sw2 = 0 }) 16384 0) ≡ 2 ∷ 0 ∷ []
-  v3 : numbers (wrapResponseChecks (at Card Pending 2) (record { sw1 = 0x61; sw2 = 0 }) 16384 0) ≡ 3 ∷ 0 ∷ []
-  v4 : numbers (wrapResponseChecks (at Card Pending 2) sw 16384 0) ≡ 4 ∷ 0 ∷ []
-  v6 : numbers (wrapResponseChecks (at Card Pending 2) sw 16383 16402) ≡ 6 ∷ 16403 ∷ []
-  v : numbers (wrapResponseChecks (at Card Pending 2) sw 16383 16403) ≡ []
+  v1 : numbers (wrap_response_checks (at Host Closed 9) (record { sw1 = 0x61; sw2 = 0 }) 16384 0) ≡ 1 ∷ 0 ∷ []
+  v2 : numbers (wrap_response_checks (at Host Pending 2) (record { sw1 = 0x61; sw2 = 0 }) 16384 0) ≡ 2 ∷ 0 ∷ []
+  v3 : numbers (wrap_response_checks (at Card Pending 2) (record { sw1 = 0x61; sw2 = 0 }) 16384 0) ≡ 3 ∷ 0 ∷ []
+  v4 : numbers (wrap_response_checks (at Card Pending 2) sw 16384 0) ≡ 4 ∷ 0 ∷ []
+  v6 : numbers (wrap_response_checks (at Card Pending 2) sw 16383 16402) ≡ 6 ∷ 16403 ∷ []
+  v : numbers (wrap_response_checks (at Card Pending 2) sw 16383 16403) ≡ []
   -- the host unwraps
-  x1 : numbers (unwrapResponseChecks (at Card Closed 9) sw 0) ≡ 1 ∷ 0 ∷ []
-  x2 : numbers (unwrapResponseChecks (at Card Pending 2) sw 0) ≡ 2 ∷ 0 ∷ []
-  x13 : numbers (unwrapResponseChecks (at Host Pending 2) sw 0) ≡ 13 ∷ 0x6A82 ∷ []
-  x4 : numbers (unwrapResponseChecks (at Host Pending 2) sw 16404) ≡ 4 ∷ 0 ∷ []
-  x : numbers (unwrapResponseChecks (at Host Pending 2) sw 16403) ≡ []
+  x1 : numbers (unwrap_response_checks (at Card Closed 9) sw 0) ≡ 1 ∷ 0 ∷ []
+  x2 : numbers (unwrap_response_checks (at Card Pending 2) sw 0) ≡ 2 ∷ 0 ∷ []
+  x13 : numbers (unwrap_response_checks (at Host Pending 2) sw 0) ≡ 13 ∷ 0x6A82 ∷ []
+  x4 : numbers (unwrap_response_checks (at Host Pending 2) sw 16404) ≡ 4 ∷ 0 ∷ []
+  x : numbers (unwrap_response_checks (at Host Pending 2) sw 16403) ≡ []
   x7 : numbers (host (0x97 ∷ []) 0).answer ≡ 7 ∷ 0 ∷ []
   x8 : numbers (host (0x99 ∷ 2 ∷ 0x6A ∷ 0x82 ∷ []) 0).answer ≡ 8 ∷ 0 ∷ []
   x6 : numbers (host (reply 1) 15).answer ≡ 6 ∷ 16 ∷ []
   x9 : numbers (host (reply 1) 16).answer ≡ 9 ∷ 0 ∷ []
   x10 : numbers (host (reply 0) 16).answer ≡ 10 ∷ 0 ∷ []
-  x9-left : phaseOf (host (reply 1) 16).next ≡ 0 ∷ 0 ∷ []
-  x10-left : phaseOf (host (reply 0) 16).next ≡ 0 ∷ 0 ∷ []
+  x9_left : phase_of (host (reply 1) 16).next ≡ 0 ∷ 0 ∷ []
+  x10_left : phase_of (host (reply 0) 16).next ≡ 0 ∷ 0 ∷ []
 
 answered : Answered
-unfolding numbers at head bad sw field reply phaseOf card host same padding pad paddedLength marked markBefore unpad lengthField readLength isShortest rank allowed rightSize rightSecond rightValue need◌else◌⨾◌ withLength readObject notedObject ended onObject walk readField object encryptedData leObject statusWord macObject commandObjects responseObjects commandField responseField ciphertextLength encryptedDataLength commandLength responseLength encodedHeader commandMacInput responseMacInput allZero keysEnd keysZero mcvsZero keepsPhase valid countsAsOpen isTurn insPermitted leNeed dataNeed commandPermitted statusPermitted commandWanted responseWanted bigEndian commandCounter responseCounter require◌else◌⨾◌ ◌and-then◌ afterRefusal concluded objectsOf text_of verifiedText commandInput wrapCommandChecks unwrapCommandChecks commandMac commandAccepted openCommand cardUnwraps wrapResponseChecks unwrapResponseChecks responseMac responseAccepted openResponse hostUnwraps
+unfolding numbers at head bad sw field reply phase_of card host same padding pad padded_length marked mark_before unpad length_field read_length is_shortest rank allowed right_size right_second right_value need◌else◌⨾◌ with_length read_object notedObject ended on_object walk read_field object encrypted_data le_object status_word mac_object command_objects response_objects command_field response_field ciphertext_length encrypted_data_length command_length response_length encoded_header command_mac_input response_mac_input all_zero keys_end keys_zero mcvs_zero keeps_phase valid counts_as_open is_turn ins_permitted le_need data_need command_permitted status_permitted command_wanted response_wanted big_endian command_counter response_counter require◌else◌⨾◌ ◌and-then◌ after_refusal concluded objects_of text_of verified_text command_input wrap_command_checks unwrap_command_checks commandMac command_accepted open_command cardUnwraps wrap_response_checks unwrap_response_checks responseMac response_accepted open_response hostUnwraps
 answered =
     record {
-      counter-1 = refl;
-      counter-258 = refl;
-      response-258 = refl;
+      counter_1 = refl;
+      counter_258 = refl;
+      response_258 = refl;
       permits = refl;
       w1 = refl;
       w2 = refl;
@@ -168,15 +168,15 @@ answered =
       u = refl;
       u7 = refl;
       u8 = refl;
-      u7-le = refl;
-      u8-le = refl;
-      u8-data = refl;
+      u7_le = refl;
+      u8_le = refl;
+      u8_data = refl;
       u6 = refl;
       u9 = refl;
       u10 = refl;
-      u6-left = refl;
-      u9-left = refl;
-      u10-left = refl;
+      u6_left = refl;
+      u9_left = refl;
+      u10_left = refl;
       v1 = refl;
       v2 = refl;
       v3 = refl;
@@ -193,6 +193,6 @@ answered =
       x6 = refl;
       x9 = refl;
       x10 = refl;
-      x9-left = refl;
-      x10-left = refl;
+      x9_left = refl;
+      x10_left = refl;
     }

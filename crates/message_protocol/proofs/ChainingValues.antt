@@ -18,23 +18,23 @@ module _ {H : Type 0} (C : Ciphers) (key : Bytes) where
   last_snoc z [] e = refl
   last_snoc z (x ∷ log) e = last_snoc (C.mac key x.input) log e
 
-  last-length : Laws C → IsKey key → (z : Bytes) (log : Log H) → length z ≡ 16 → length (get_or (z ∷ map (C.mac key) (inputs log)) (length log) []) ≡ 16
-  last-length L g z [] e = e
-  last-length L g z (x ∷ log) e = last-length L g (C.mac key x.input) log (L.mac-length key x.input g)
+  last_length : Laws C → IsKey key → (z : Bytes) (log : Log H) → length z ≡ 16 → length (get_or (z ∷ map (C.mac key) (inputs log)) (length log) []) ≡ 16
+  last_length L g z [] e = e
+  last_length L g z (x ∷ log) e = last_length L g (C.mac key x.input) log (L.mac_length key x.input g)
 
-  last-at : (z : Bytes) (log more : Log H)
+  last_at : (z : Bytes) (log more : Log H)
       → get_or (z ∷ map (C.mac key) (inputs (log ++ more))) (length log) [] ≡ get_or (z ∷ map (C.mac key) (inputs log)) (length log) []
-  last-at z [] more = refl
-  last-at z (x ∷ log) more = last-at (C.mac key x.input) log more
+  last_at z [] more = refl
+  last_at z (x ∷ log) more = last_at (C.mac key x.input) log more
 
   -- after an entry it is the full MAC of the entry's input
-  pub chaining-snoc : (log : Log H) (e : Entry H) → chaining C key (log ++ e ∷ []) ≡ C.mac key e.input
+  pub chaining_snoc : (log : Log H) (e : Entry H) → chaining C key (log ++ e ∷ []) ≡ C.mac key e.input
   unfolding chaining chainingValues
-  chaining-snoc log e = last_snoc (zeros 16) log e
+  chaining_snoc log e = last_snoc (zeros 16) log e
 
-  pub chaining-length : Laws C → IsKey key → (log : Log H) → length (chaining C key log) ≡ 16
+  pub chaining_length : Laws C → IsKey key → (log : Log H) → length (chaining C key log) ≡ 16
   unfolding chaining chainingValues
-  chaining-length L g log = last-length L g (zeros 16) log refl
+  chaining_length L g log = last_length L g (zeros 16) log refl
 
   -- two parts of a log, of different lengths, with the same chaining value after them
   collide : (L A ys zs W : Log H) → L ++ ys ≡ W → A ++ zs ≡ W → length L < length A → chaining C key L ≡ chaining C key A → Collision C key (inputs W)
@@ -42,7 +42,7 @@ module _ {H : Type 0} (C : Ciphers) (key : Bytes) where
       record { i = length L; j = length A; i<j = lt; within = inside A zs W a; equal = at L ys W l ∙ e ∙ sym (at A zs W a) }
     where
       at : (A zs W : Log H) → A ++ zs ≡ W → get_or (chainingValues C key (inputs W)) (length A) [] ≡ chaining C key A
-      at A zs W a = unfold chaining chainingValues in (rw (← a) (last-at (zeros 16) A zs))
+      at A zs W a = unfold chaining chainingValues in (rw (← a) (last_at (zeros 16) A zs))
 
       inside : (A zs W : Log H) → A ++ zs ≡ W → length A < length (chainingValues C key (inputs W))
       inside A zs W a =

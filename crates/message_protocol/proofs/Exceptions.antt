@@ -8,18 +8,18 @@ use Rattle.session.specs.declared.Side.{Side}
 use Rattle.message_ciphers.specs.Ciphers.{Ciphers}
 use Rattle.message_answer.specs.Message.{StatusWord}
 use Rattle.message_answer.specs.Answer.{refused}
-use Rattle.message_protocol.specs.Transcript.{Call, unwrapCommand, unwrapResponse, close, Gives, Transcript}
+use Rattle.message_protocol.specs.Transcript.{Call, unwrap_command, unwrap_response, close, Gives, Transcript}
 use Rattle.message_protocol.specs.Agreement.{Breaks, BreaksIn, CallBytes}
 
 module _ (C : Ciphers) (K : Keys) (t : Transcript) where
-  closing-not-excepted : (side : Side) (u : Gives (close side)) → Breaks C K t (close side) u → ⊥
-  closing-not-excepted side u b = b
+  closing_not_excepted : (side : Side) (u : Gives (close side)) → Breaks C K t (close side) u → ⊥
+  closing_not_excepted side u b = b
 
-  refusal-not-excepted : (c : Call) (r : Refusal) → BreaksIn C K t c (refused r) → ⊥
-  refusal-not-excepted c r b = b
+  refusal_not_excepted : (c : Call) (r : Refusal) → BreaksIn C K t c (refused r) → ⊥
+  refusal_not_excepted c r b = b
 
-any-command-field : (side : Side) (ins p1 p2 : ℕ) (field : Bytes) (room : ℕ) → CallBytes (unwrapCommand side ins p1 p2 field room)
-any-command-field side ins p1 p2 field room = tt
+any_command_field : (side : Side) (ins p1 p2 : ℕ) (field : Bytes) (room : ℕ) → CallBytes (unwrap_command side ins p1 p2 field room)
+any_command_field side ins p1 p2 field room = tt
 
-any-response-field : (side : Side) (sw : StatusWord) (field : Bytes) (room : ℕ) → CallBytes (unwrapResponse side sw field room)
-any-response-field side sw field room = tt
+any_response_field : (side : Side) (sw : StatusWord) (field : Bytes) (room : ℕ) → CallBytes (unwrap_response side sw field room)
+any_response_field side sw field room = tt

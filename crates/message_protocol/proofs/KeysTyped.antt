@@ -5,28 +5,28 @@ use native.Mathlib.Omega.{arith}
 use lib.ListN.{length, get_or}
 use lib.Seq.{length-take-le, get_or-take}
 use Rattle.octets.specs.Bytes.{Bytes}
-use Rattle.session_suite.specs.Suites.{keyLength}
-use Rattle.session_suite.specs.StoredKeys.{keyIn}
-use Rattle.session_suite.proofs.StoredKeys.{key-length-most, key-size}
+use Rattle.session_suite.specs.Suites.{key_length}
+use Rattle.session_suite.specs.StoredKeys.{key_in}
+use Rattle.session_suite.proofs.StoredKeys.{key_length_most, key_size_lem}
 use Rattle.session_suite.specs.declared.Suite.{Suite}
 use Rattle.session.specs.declared.Session.{Session}
 use Rattle.message_ciphers.specs.Ciphers.{IsKey}
 use Rattle.message_protocol.specs.HonestDelivery.{Keyed}
 
-of-suite : (suite : Suite) (key : Bytes) → length key ≡ 32 → ((i : ℕ) → get_or key i 0 < 256) → IsKey (keyIn suite key)
-of-suite suite key size fits =
-    let n = length-take-le (keyLength suite) key (omega (arith, key-length-most suite, size)) in
+of_suite : (suite : Suite) (key : Bytes) → length key ≡ 32 → ((i : ℕ) → get_or key i 0 < 256) → IsKey (key_in suite key)
+of_suite suite key size fits =
+    let n = length-take-le (key_length suite) key (omega (arith, key_length_most suite, size)) in
     record {
-      bytes = λ i l. omega (arith, get_or-take (keyLength suite) key i 0 (omega (arith, l, n)), fits i);
-      size = key-size suite (keyIn suite key) n;
+      bytes = λ i l. omega (arith, get_or-take (key_length suite) key i 0 (omega (arith, l, n)), fits i);
+      size = key_size_lem suite (key_in suite key) n;
     }
 
-pub keys-typed : (s : Session)
+pub keys_typed : (s : Session)
     → length s.sk_enc ≡ 32 → length s.sk_mac ≡ 32 → length s.sk_rmac ≡ 32
     → ((i : ℕ) → get_or s.sk_enc i 0 < 256) → ((i : ℕ) → get_or s.sk_mac i 0 < 256) → ((i : ℕ) → get_or s.sk_rmac i 0 < 256) → Keyed s
-keys-typed s e m r fe fm fr =
+keys_typed s e m r fe fm fr =
     record {
-      enc = of-suite s.suite s.sk_enc e fe;
-      mac = of-suite s.suite s.sk_mac m fm;
-      rmac = of-suite s.suite s.sk_rmac r fr;
+      enc = of_suite s.suite s.sk_enc e fe;
+      mac = of_suite s.suite s.sk_mac m fm;
+      rmac = of_suite s.suite s.sk_rmac r fr;
     }

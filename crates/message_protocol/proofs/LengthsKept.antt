@@ -6,34 +6,34 @@ use Rattle.refusal.specs.declared.Refusal.{Refusal}
 use Rattle.message_ciphers.specs.Ciphers.{Ciphers}
 use Rattle.session.specs.Session.{closed}
 use Rattle.session.specs.declared.Session.{Session}
-use Rattle.message_answer.specs.Answer.{Out, afterRefusal}
-use Rattle.message_protocol.specs.Command.{commandMac, commandWrapped, commandAccepted}
-use Rattle.message_protocol.specs.Response.{responseMac, responseWrapped, responseAccepted}
-use Rattle.message_protocol.specs.Transcript.{Call, wrapCommand, unwrapCommand, wrapResponse, unwrapResponse, close, does}
-use Rattle.message_protocol.proofs.CallCases.{host-wraps, card-wraps, card-unwraps, host-unwraps}
-use Rattle.message_answer.proofs.Refusals.{after-refusal}
+use Rattle.message_answer.specs.Answer.{Out, after_refusal}
+use Rattle.message_protocol.specs.Command.{commandMac, commandWrapped, command_accepted}
+use Rattle.message_protocol.specs.Response.{responseMac, responseWrapped, response_accepted}
+use Rattle.message_protocol.specs.Transcript.{Call, wrap_command, unwrap_command, wrap_response, unwrap_response, close, does}
+use Rattle.message_protocol.proofs.CallCases.{host_wraps, card_wraps, card_unwraps, host_unwraps}
+use Rattle.message_answer.proofs.Refusals.{after_refusal_lem}
 use Rattle.session_bytes.specs.Lengths.{Lengths}
-use Rattle.session_bytes.proofs.SessionLengths.{closed-lengths}
+use Rattle.session_bytes.proofs.SessionLengths.{closed_lengths}
 
 module _ (C : Ciphers) (mac-long : (k m : Bytes) → length (C.mac k m) ≡ 16) (s : Session) (l : Lengths s) where
   abbrev Kept : {A : Type 0} → Out A → Type 0
   Kept out = Lengths out.next
 
-  refused-lengths : (r : Refusal) → Lengths (afterRefusal s r)
-  refused-lengths r = after-refusal closed (λ (t : Session). Lengths t) s r l (closed-lengths s)
+  refused_lengths : (r : Refusal) → Lengths (after_refusal s r)
+  refused_lengths r = after_refusal_lem closed (λ (t : Session). Lengths t) s r l (closed_lengths s)
 
-  pub keeps-lengths : (c : Call) → Lengths (does C s c).next
-  unfolding does commandWrapped commandAccepted responseWrapped responseAccepted commandMac responseMac
-  keeps-lengths (wrapCommand side m room) =
-      host-wraps C Kept s m room refused-lengths
+  pub keeps_lengths : (c : Call) → Lengths (does C s c).next
+  unfolding does commandWrapped command_accepted responseWrapped response_accepted commandMac responseMac
+  keeps_lengths (wrap_command side m room) =
+      host_wraps C Kept s m room refused_lengths
       (λ may. record { enc = l.enc; mac = l.mac; rmac = l.rmac; command = mac-long _ _; response = l.response })
-  keeps-lengths (unwrapCommand side ins p1 p2 field room) =
-      card-unwraps C Kept s ins p1 p2 field room refused-lengths
+  keeps_lengths (unwrap_command side ins p1 p2 field room) =
+      card_unwraps C Kept s ins p1 p2 field room refused_lengths
       (λ o d read. record { enc = l.enc; mac = l.mac; rmac = l.rmac; command = mac-long _ _; response = l.response })
-  keeps-lengths (wrapResponse side m room) =
-      card-wraps C Kept s m room refused-lengths
+  keeps_lengths (wrap_response side m room) =
+      card_wraps C Kept s m room refused_lengths
       (λ may. record { enc = l.enc; mac = l.mac; rmac = l.rmac; command = l.command; response = mac-long _ _ })
-  keeps-lengths (unwrapResponse side sw field room) =
-      host-unwraps C Kept s sw field room refused-lengths
+  keeps_lengths (unwrap_response side sw field room) =
+      host_unwraps C Kept s sw field room refused_lengths
       (λ o d read. record { enc = l.enc; mac = l.mac; rmac = l.rmac; command = l.command; response = mac-long _ _ })
-  keeps-lengths (close side) = closed-lengths s
+  keeps_lengths (close side) = closed_lengths s

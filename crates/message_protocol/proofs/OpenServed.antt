@@ -11,17 +11,17 @@ use Rattle.refusal.specs.declared.Refusal.{Refusal}
 use Rattle.session.specs.declared.Side.TheVariants.{Host, Card}
 use Rattle.session.specs.declared.Phase.TheVariants.{Ready, Pending}
 use Rattle.session.specs.declared.Session.{Session}
-use Rattle.session_rules.specs.Valid.{countsAsOpen}
-use Rattle.session_rules.proofs.KeepsTheRules.{command-served, response-served}
+use Rattle.session_rules.specs.Valid.{counts_as_open}
+use Rattle.session_rules.proofs.KeepsTheRules.{command_served, response_served}
 use Rattle.message_ciphers.specs.Ciphers.{Ciphers}
 use Rattle.message_answer.specs.Answer.{Answer, refused, gave, require◌else◌⨾◌, Out}
-use Rattle.message_answer.proofs.Required.{not-refused}
-use Rattle.message_answer.proofs.Among.{Among, gave-among, require-among, then-among, concluded-among, first, later}
-use Rattle.message_protocol.specs.Command.{wrapCommandChecks, unwrapCommandChecks, commandWrapped, commandAccepted, hostWraps, openCommand, cardUnwraps}
-use Rattle.message_protocol.specs.Response.{wrapResponseChecks, unwrapResponseChecks, responseWrapped, responseAccepted, cardWraps, openResponse, hostUnwraps}
-use Rattle.message_protocol.specs.Transcript.{Call, wrapCommand, unwrapCommand, wrapResponse, unwrapResponse, close, does}
-use Rattle.message_protocol.proofs.CallCases.{turn_is, host-wraps, card-wraps, card-unwraps, host-unwraps}
-use Rattle.message_protocol.proofs.Refused.{objects-among, verified-among}
+use Rattle.message_answer.proofs.Required.{not_refused}
+use Rattle.message_answer.proofs.Among.{Among, gave_among, require_among, then_among, concluded_among, first, later}
+use Rattle.message_protocol.specs.Command.{wrap_command_checks, unwrap_command_checks, commandWrapped, command_accepted, hostWraps, open_command, cardUnwraps}
+use Rattle.message_protocol.specs.Response.{wrap_response_checks, unwrap_response_checks, responseWrapped, response_accepted, cardWraps, open_response, hostUnwraps}
+use Rattle.message_protocol.specs.Transcript.{Call, wrap_command, unwrap_command, wrap_response, unwrap_response, close, does}
+use Rattle.message_protocol.proofs.CallCases.{turn_is, host_wraps, card_wraps, card_unwraps, host_unwraps}
+use Rattle.message_protocol.proofs.Refused.{objects_among, verified_among}
 
 -- all numbers of the calls but 1
 abbrev others : List ℕ
@@ -74,77 +74,77 @@ passes ok q rest e f = rw e f
 
 -- of every call but a closing
 abbrev pub Serves : Call → Type 0
-Serves (wrapCommand side m room) = Unit {0}
-Serves (unwrapCommand side ins p1 p2 field room) = Unit {0}
-Serves (wrapResponse side m room) = Unit {0}
-Serves (unwrapResponse side sw field room) = Unit {0}
+Serves (wrap_command side m room) = Unit {0}
+Serves (unwrap_command side ins p1 p2 field room) = Unit {0}
+Serves (wrap_response side m room) = Unit {0}
+Serves (unwrap_response side sw field room) = Unit {0}
 Serves (close side) = ⊥
 
-module _ (C : Ciphers) (s : Session) (open_is : countsAsOpen s ≡ true) where
+module _ (C : Ciphers) (s : Session) (open_is : counts_as_open s ≡ true) where
   among : (c : Call) → Among others (does C s c).answer
-  unfolding does hostWraps openCommand cardUnwraps cardWraps openResponse hostUnwraps wrapCommandChecks unwrapCommandChecks wrapResponseChecks unwrapResponseChecks
-  among (wrapCommand side m room) =
-      concluded-among others s _ (then-among others _ _
+  unfolding does hostWraps open_command cardUnwraps cardWraps open_response hostUnwraps wrap_command_checks unwrap_command_checks wrap_response_checks unwrap_response_checks
+  among (wrap_command side m room) =
+      concluded_among others s _ (then_among others _ _
       (passes _ _ _ open_is
-      (require-among others _ _ _ first
-      (require-among others _ _ _ at3
-      (require-among others _ _ _ at4
-      (require-among others _ _ _ at5
-      (require-among others _ _ _ at6
-      (gave-among others tt)))))))
-      (λ u. gave-among others _))
-  among (unwrapCommand side ins p1 p2 field room) =
-      concluded-among others s _ (then-among others _ _
+      (require_among others _ _ _ first
+      (require_among others _ _ _ at3
+      (require_among others _ _ _ at4
+      (require_among others _ _ _ at5
+      (require_among others _ _ _ at6
+      (gave_among others tt)))))))
+      (λ u. gave_among others _))
+  among (unwrap_command side ins p1 p2 field room) =
+      concluded_among others s _ (then_among others _ _
       (passes _ _ _ open_is
-      (require-among others _ _ _ first
-      (require-among others _ _ _ at3
-      (require-among others _ _ _ at4
-      (require-among others _ _ _ at5
-      (gave-among others tt))))))
-      (λ u. then-among others _ _ (objects-among others _ at7 at8)
-      (λ o. then-among others _ _ (verified-among others C _ _ _ _ room at6 at9 at10) (λ d. gave-among others _))))
-  among (wrapResponse side m room) =
-      concluded-among others s _ (then-among others _ _
+      (require_among others _ _ _ first
+      (require_among others _ _ _ at3
+      (require_among others _ _ _ at4
+      (require_among others _ _ _ at5
+      (gave_among others tt))))))
+      (λ u. then_among others _ _ (objects_among others _ at7 at8)
+      (λ o. then_among others _ _ (verified_among others C _ _ _ _ room at6 at9 at10) (λ d. gave_among others _))))
+  among (wrap_response side m room) =
+      concluded_among others s _ (then_among others _ _
       (passes _ _ _ open_is
-      (require-among others _ _ _ first
-      (require-among others _ _ _ at3
-      (require-among others _ _ _ at4
-      (require-among others _ _ _ at6
-      (gave-among others tt))))))
-      (λ u. gave-among others _))
-  among (unwrapResponse side sw field room) =
-      concluded-among others s _ (then-among others _ _
+      (require_among others _ _ _ first
+      (require_among others _ _ _ at3
+      (require_among others _ _ _ at4
+      (require_among others _ _ _ at6
+      (gave_among others tt))))))
+      (λ u. gave_among others _))
+  among (unwrap_response side sw field room) =
+      concluded_among others s _ (then_among others _ _
       (passes _ _ _ open_is
-      (require-among others _ _ _ first
-      (require-among others _ _ _ at13
-      (require-among others _ _ _ at4
-      (gave-among others tt)))))
-      (λ u. then-among others _ _ (objects-among others _ at7 at8)
-      (λ o. then-among others _ _ (verified-among others C _ _ _ _ room at6 at9 at10) (λ d. gave-among others _))))
-  among (close side) = gave-among others tt
+      (require_among others _ _ _ first
+      (require_among others _ _ _ at13
+      (require_among others _ _ _ at4
+      (gave_among others tt)))))
+      (λ u. then_among others _ _ (objects_among others _ at7 at8)
+      (λ o. then_among others _ _ (verified_among others C _ _ _ _ room at6 at9 at10) (λ d. gave_among others _))))
+  among (close side) = gave_among others tt
 
-  pub answers-none-with-1 : (c : Call) (r : Refusal) → (does C s c).answer ≡ refused r → number r ≡ 1 → ⊥
+  pub answers_none_with_1 : (c : Call) (r : Refusal) → (does C s c).answer ≡ refused r → number r ≡ 1 → ⊥
   unfolding hit
-  answers-none-with-1 c r e one = lacks (subst (λ (n : ℕ). Memᴰ n others) one (among c r e))
+  answers_none_with_1 c r e one = lacks (subst (λ (n : ℕ). Memᴰ n others) one (among c r e))
     where
       lacks : Memᴰ 1 others → ⊥
       lacks m = let z : false ≡ true = met 1 others m in let w : ◌≡◌ {A = ℕ} 0 1 = cc in omega arith
 
   abbrev StaysOpen : {A : Type 0} → Out A → Type 0
-  StaysOpen {A} out = (a : A) → out.answer ≡ gave a → countsAsOpen out.next ≡ true
+  StaysOpen {A} out = (a : A) → out.answer ≡ gave a → counts_as_open out.next ≡ true
 
   pub stays_open : (c : Call) → Serves c → StaysOpen (does C s c)
-  unfolding does commandWrapped commandAccepted responseWrapped responseAccepted
-  stays_open (wrapCommand side m room) u =
-      host-wraps C StaysOpen s m room (λ r a e. not-refused e)
-      (λ may a e. command-served s _ may.opened (turn_is Host Ready s may.turn).1 may.counted)
-  stays_open (unwrapCommand side ins p1 p2 field room) u =
-      card-unwraps C StaysOpen s ins p1 p2 field room (λ r a e. not-refused e)
-      (λ o d read a e. command-served s _ read.may.opened (turn_is Card Ready s read.may.turn).1 read.may.counted)
-  stays_open (wrapResponse side m room) u =
-      card-wraps C StaysOpen s m room (λ r a e. not-refused e)
-      (λ may a e. response-served s _ may.opened (turn_is Card Pending s may.turn).1)
-  stays_open (unwrapResponse side sw field room) u =
-      host-unwraps C StaysOpen s sw field room (λ r a e. not-refused e)
-      (λ o d read a e. response-served s _ read.may.opened (turn_is Host Pending s read.may.turn).1)
+  unfolding does commandWrapped command_accepted responseWrapped response_accepted
+  stays_open (wrap_command side m room) u =
+      host_wraps C StaysOpen s m room (λ r a e. not_refused e)
+      (λ may a e. command_served s _ may.opened (turn_is Host Ready s may.turn).1 may.counted)
+  stays_open (unwrap_command side ins p1 p2 field room) u =
+      card_unwraps C StaysOpen s ins p1 p2 field room (λ r a e. not_refused e)
+      (λ o d read a e. command_served s _ read.may.opened (turn_is Card Ready s read.may.turn).1 read.may.counted)
+  stays_open (wrap_response side m room) u =
+      card_wraps C StaysOpen s m room (λ r a e. not_refused e)
+      (λ may a e. response_served s _ may.opened (turn_is Card Pending s may.turn).1)
+  stays_open (unwrap_response side sw field room) u =
+      host_unwraps C StaysOpen s sw field room (λ r a e. not_refused e)
+      (λ o d read a e. response_served s _ read.may.opened (turn_is Host Pending s read.may.turn).1)
   stays_open (close side) u = absurd u

@@ -12,118 +12,118 @@ use Rattle.refusal.specs.declared.Refusal.TheVariants.{Malformed, MissingObject,
 use Rattle.session.specs.Session.{closed}
 use Rattle.session.specs.declared.Session.{Session}
 use Rattle.message_ciphers.specs.Ciphers.{Ciphers}
-use Rattle.message_answer.specs.Answer.{refused, afterRefusal, buffer}
-use Rattle.message_answer.proofs.Required.{not-given}
-use Rattle.message_answer.proofs.Among.{Among, refused-among, gave-among, require-among, then-among, concluded-among, first, later}
-use Rattle.message_answer.proofs.Refusals.{session-closes, session-stays, session-left}
-use Rattle.message_verify.specs.Reading.{objectsOf, text_of}
-use Rattle.message_verify.specs.VerifiedText.{Received, verifiedText}
-use Rattle.message_protocol.specs.Command.{wrapCommandChecks, unwrapCommandChecks, hostWraps, openCommand, cardUnwraps}
-use Rattle.message_protocol.specs.Response.{wrapResponseChecks, unwrapResponseChecks, cardWraps, openResponse, hostUnwraps}
-use Rattle.message_protocol.specs.Transcript.{Call, wrapCommand, unwrapCommand, wrapResponse, unwrapResponse, close, does}
+use Rattle.message_answer.specs.Answer.{refused, after_refusal, buffer}
+use Rattle.message_answer.proofs.Required.{not_given_lem}
+use Rattle.message_answer.proofs.Among.{Among, refused_among, gave_among, require_among, then_among, concluded_among, first, later}
+use Rattle.message_answer.proofs.Refusals.{session_closes, session_stays, session_left}
+use Rattle.message_verify.specs.Reading.{objects_of, text_of}
+use Rattle.message_verify.specs.VerifiedText.{Received, verified_text}
+use Rattle.message_protocol.specs.Command.{wrap_command_checks, unwrap_command_checks, hostWraps, open_command, cardUnwraps}
+use Rattle.message_protocol.specs.Response.{wrap_response_checks, unwrap_response_checks, cardWraps, open_response, hostUnwraps}
+use Rattle.message_protocol.specs.Transcript.{Call, wrap_command, unwrap_command, wrap_response, unwrap_response, close, does}
 use Rattle.message_protocol.specs.RefusalKeeps.{order, writes, IsClosed, RefusalKeeps}
 
 -- ---- the refusals of the stages that read
 
-pub objects-among : (ns : List ℕ) (read : FieldRead) → Memᴰ 7 ns → Memᴰ 8 ns → Among ns (objectsOf read)
-unfolding objectsOf
-objects-among ns (Read o) a b = gave-among ns o
-objects-among ns (BadField x) a b = refused-among Objects ns Malformed a
-objects-among ns (Missing tag end) a b = refused-among Objects ns MissingObject b
+pub objects_among : (ns : List ℕ) (read : FieldRead) → Memᴰ 7 ns → Memᴰ 8 ns → Among ns (objects_of read)
+unfolding objects_of
+objects_among ns (Read o) a b = gave_among ns o
+objects_among ns (BadField x) a b = refused_among Objects ns Malformed a
+objects_among ns (Missing tag end) a b = refused_among Objects ns MissingObject b
 
-text-among : (ns : List ℕ) (t : Option Bytes) → Memᴰ 10 ns → Among ns (text_of t)
+text_among : (ns : List ℕ) (t : Option Bytes) → Memᴰ 10 ns → Among ns (text_of t)
 unfolding text_of
-text-among ns (some d) a = gave-among ns d
-text-among ns none a = refused-among Bytes ns BadPadding a
+text_among ns (some d) a = gave_among ns d
+text_among ns none a = refused_among Bytes ns BadPadding a
 
-pub verified-among : (ns : List ℕ) (C : Ciphers) (key counter full : Bytes) (r : Received) (room : ℕ)
-    → Memᴰ 6 ns → Memᴰ 9 ns → Memᴰ 10 ns → Among ns (verifiedText C key counter full r room)
-unfolding verifiedText
-verified-among ns C key counter full r room a b c = require-among ns _ _ _ a (require-among ns _ _ _ b (text-among ns _ c))
+pub verified_among : (ns : List ℕ) (C : Ciphers) (key counter full : Bytes) (r : Received) (room : ℕ)
+    → Memᴰ 6 ns → Memᴰ 9 ns → Memᴰ 10 ns → Among ns (verified_text C key counter full r room)
+unfolding verified_text
+verified_among ns C key counter full r room a b c = require_among ns _ _ _ a (require_among ns _ _ _ b (text_among ns _ c))
 
 -- ---- each call
 
 module _ (C : Ciphers) (s : Session) where
   in_order : (c : Call) → Among (order c) (does C s c).answer
-  unfolding does hostWraps openCommand cardUnwraps cardWraps openResponse hostUnwraps wrapCommandChecks unwrapCommandChecks wrapResponseChecks unwrapResponseChecks
-  in_order (wrapCommand side m room) =
+  unfolding does hostWraps open_command cardUnwraps cardWraps open_response hostUnwraps wrap_command_checks unwrap_command_checks wrap_response_checks unwrap_response_checks
+  in_order (wrap_command side m room) =
       let ns : List ℕ = 1 ∷ 2 ∷ 3 ∷ 4 ∷ 5 ∷ 6 ∷ [] in
-      concluded-among ns s _ (then-among ns _ _
-      (require-among ns _ _ _ first
-      (require-among ns _ _ _ (later first)
-      (require-among ns _ _ _ (later (later first))
-      (require-among ns _ _ _ (later (later (later first)))
-      (require-among ns _ _ _ (later (later (later (later first))))
-      (require-among ns _ _ _ (later (later (later (later (later first)))))
-      (gave-among ns tt)))))))
-      (λ u. gave-among ns _))
-  in_order (unwrapCommand side ins p1 p2 field room) =
+      concluded_among ns s _ (then_among ns _ _
+      (require_among ns _ _ _ first
+      (require_among ns _ _ _ (later first)
+      (require_among ns _ _ _ (later (later first))
+      (require_among ns _ _ _ (later (later (later first)))
+      (require_among ns _ _ _ (later (later (later (later first))))
+      (require_among ns _ _ _ (later (later (later (later (later first)))))
+      (gave_among ns tt)))))))
+      (λ u. gave_among ns _))
+  in_order (unwrap_command side ins p1 p2 field room) =
       let ns : List ℕ = 1 ∷ 2 ∷ 3 ∷ 4 ∷ 5 ∷ 7 ∷ 8 ∷ 6 ∷ 9 ∷ 10 ∷ [] in
-      concluded-among ns s _ (then-among ns _ _
-      (require-among ns _ _ _ first
-      (require-among ns _ _ _ (later first)
-      (require-among ns _ _ _ (later (later first))
-      (require-among ns _ _ _ (later (later (later first)))
-      (require-among ns _ _ _ (later (later (later (later first))))
-      (gave-among ns tt))))))
-      (λ u. then-among ns _ _ (objects-among ns _ (later (later (later (later (later first))))) (later (later (later (later (later (later first)))))))
-      (λ o. then-among ns _ _ (verified-among ns C _ _ _ _ room (later (later (later (later (later (later (later first)))))))
+      concluded_among ns s _ (then_among ns _ _
+      (require_among ns _ _ _ first
+      (require_among ns _ _ _ (later first)
+      (require_among ns _ _ _ (later (later first))
+      (require_among ns _ _ _ (later (later (later first)))
+      (require_among ns _ _ _ (later (later (later (later first))))
+      (gave_among ns tt))))))
+      (λ u. then_among ns _ _ (objects_among ns _ (later (later (later (later (later first))))) (later (later (later (later (later (later first)))))))
+      (λ o. then_among ns _ _ (verified_among ns C _ _ _ _ room (later (later (later (later (later (later (later first)))))))
       (later (later (later (later (later (later (later (later first)))))))) (later (later (later (later (later (later (later (later (later first))))))))))
-      (λ d. gave-among ns _))))
-  in_order (wrapResponse side m room) =
+      (λ d. gave_among ns _))))
+  in_order (wrap_response side m room) =
       let ns : List ℕ = 1 ∷ 2 ∷ 3 ∷ 4 ∷ 6 ∷ [] in
-      concluded-among ns s _ (then-among ns _ _
-      (require-among ns _ _ _ first
-      (require-among ns _ _ _ (later first)
-      (require-among ns _ _ _ (later (later first))
-      (require-among ns _ _ _ (later (later (later first)))
-      (require-among ns _ _ _ (later (later (later (later first))))
-      (gave-among ns tt))))))
-      (λ u. gave-among ns _))
-  in_order (unwrapResponse side sw field room) =
+      concluded_among ns s _ (then_among ns _ _
+      (require_among ns _ _ _ first
+      (require_among ns _ _ _ (later first)
+      (require_among ns _ _ _ (later (later first))
+      (require_among ns _ _ _ (later (later (later first)))
+      (require_among ns _ _ _ (later (later (later (later first))))
+      (gave_among ns tt))))))
+      (λ u. gave_among ns _))
+  in_order (unwrap_response side sw field room) =
       let ns : List ℕ = 1 ∷ 2 ∷ 13 ∷ 4 ∷ 7 ∷ 8 ∷ 6 ∷ 9 ∷ 10 ∷ [] in
-      concluded-among ns s _ (then-among ns _ _
-      (require-among ns _ _ _ first
-      (require-among ns _ _ _ (later first)
-      (require-among ns _ _ _ (later (later first))
-      (require-among ns _ _ _ (later (later (later first)))
-      (gave-among ns tt)))))
-      (λ u. then-among ns _ _ (objects-among ns _ (later (later (later (later first)))) (later (later (later (later (later first))))))
-      (λ o. then-among ns _ _ (verified-among ns C _ _ _ _ room (later (later (later (later (later (later first))))))
+      concluded_among ns s _ (then_among ns _ _
+      (require_among ns _ _ _ first
+      (require_among ns _ _ _ (later first)
+      (require_among ns _ _ _ (later (later first))
+      (require_among ns _ _ _ (later (later (later first)))
+      (gave_among ns tt)))))
+      (λ u. then_among ns _ _ (objects_among ns _ (later (later (later (later first)))) (later (later (later (later (later first))))))
+      (λ o. then_among ns _ _ (verified_among ns C _ _ _ _ room (later (later (later (later (later (later first))))))
       (later (later (later (later (later (later (later first))))))) (later (later (later (later (later (later (later (later first)))))))))
-      (λ d. gave-among ns _))))
-  in_order (close side) = gave-among [] tt
+      (λ d. gave_among ns _))))
+  in_order (close side) = gave_among [] tt
 
   -- ---- what is left
 
-  next-is : (c : Call) (r : Refusal) → (does C s c).answer ≡ refused r → (does C s c).next ≡ afterRefusal s r
-  unfolding does hostWraps openCommand cardUnwraps cardWraps openResponse hostUnwraps
-  next-is (wrapCommand side m room) r e = session-left s _ _ r e
-  next-is (unwrapCommand side ins p1 p2 field room) r e = session-left s _ _ r e
-  next-is (wrapResponse side m room) r e = session-left s _ _ r e
-  next-is (unwrapResponse side sw field room) r e = session-left s _ _ r e
-  next-is (close side) r e = not-given e
+  next_is : (c : Call) (r : Refusal) → (does C s c).answer ≡ refused r → (does C s c).next ≡ after_refusal s r
+  unfolding does hostWraps open_command cardUnwraps cardWraps open_response hostUnwraps
+  next_is (wrap_command side m room) r e = session_left s _ _ r e
+  next_is (unwrap_command side ins p1 p2 field room) r e = session_left s _ _ r e
+  next_is (wrap_response side m room) r e = session_left s _ _ r e
+  next_is (unwrap_response side sw field room) r e = session_left s _ _ r e
+  next_is (close side) r e = not_given_lem e
 
-  is-closed : (t : Session) → t ≡ closed s → IsClosed s t
-  is-closed t e =
+  is_closed : (t : Session) → t ≡ closed s → IsClosed s t
+  is_closed t e =
       rw e (record {
-        side-stays = refl;
-        suite-stays = refl;
-        phase-is = refl;
-        count-is = refl;
-        enc-is = refl;
-        mac-is = refl;
-        rmac-is = refl;
-        command-mcv-is = refl;
-        response-mcv-is = refl;
+        side_stays = refl;
+        suite_stays = refl;
+        phase_is = refl;
+        count_is = refl;
+        enc_is = refl;
+        mac_is = refl;
+        rmac_is = refl;
+        command_mcv_is = refl;
+        response_mcv_is = refl;
       })
 
-pub refusal-keeps : (C : Ciphers) → RefusalKeeps C
+pub refusal_keeps : (C : Ciphers) → RefusalKeeps C
 unfolding buffer
-refusal-keeps C s c r held e =
+refusal_keeps C s c r held e =
     record {
       in_order = in_order C s c r e;
       output = ap (buffer (writes c) held) e;
-      closes = λ f. is-closed C s (does C s c).next (next-is C s c r e ∙ session-closes s r f);
-      stays = λ f. next-is C s c r e ∙ session-stays s r f;
+      closes = λ f. is_closed C s (does C s c).next (next_is C s c r e ∙ session_closes s r f);
+      stays = λ f. next_is C s c r e ∙ session_stays s r f;
     }

@@ -3,7 +3,7 @@
 use Rattle.std.specs.Prelude.{◌≡◌, ◌⊎◌, ℕ, ◌<◌, length, take, get_or}
 use mathlib.Core.List.{List, [], ◌∷◌, Memᴰ}
 use Rattle.octets.specs.Bytes.{Bytes, IsBytes}
-use Rattle.field_read.specs.Field.{macOf}
+use Rattle.field_read.specs.Field.{mac_of}
 use Rattle.session_suite.specs.StoredKeys.{KeysOfBytes, Keys}
 use Rattle.session.specs.Opening.{opening}
 use Rattle.session.specs.declared.Side.TheVariants.{Host, Card}
@@ -12,7 +12,7 @@ use Rattle.message_ciphers.specs.Ciphers.{Ciphers}
 use Rattle.message_answer.specs.Answer.{Answer, refused, gave}
 use Rattle.message_exchange.specs.Exchange as exchange
 use Rattle.message_exchange.specs.Exchange.{inputs}
-use Rattle.message_protocol.specs.Transcript.{Call, wrapCommand, unwrapCommand, wrapResponse, unwrapResponse, close, side_of, Gives, does, Transcript, chainingValues, commands, responses, commandRead, responseRead, acceptedCommand, acceptedResponse, State, sessionAt, step, run, start}
+use Rattle.message_protocol.specs.Transcript.{Call, wrap_command, unwrap_command, wrap_response, unwrap_response, close, side_of, Gives, does, Transcript, chainingValues, commands, responses, command_read, response_read, acceptedCommand, acceptedResponse, State, session_at, step, run, start}
 
 -- ---- what holds of a transcript
 
@@ -40,14 +40,14 @@ pub record MacBreak (C : Ciphers) (key : Bytes) (sent : List Bytes) (input mac :
 module _ (C : Ciphers) (K : Keys) where
   -- of a call that was not refused, with the transcript before it
   abbrev pub Breaks : Transcript → (c : Call) → Gives c → Type 0
-  Breaks t (wrapCommand side m room) field = ⊥
-  Breaks t (unwrapCommand side ins p1 p2 field room) g =
+  Breaks t (wrap_command side m room) field = ⊥
+  Breaks t (unwrap_command side ins p1 p2 field room) g =
       let e = acceptedCommand C K ins p1 p2 field g t.commands.accepted in
-      MacBreak C K.mac (inputs t.commands.wrapped) e.input (macOf field (commandRead ins field))
-  Breaks t (wrapResponse side m room) field = ⊥
-  Breaks t (unwrapResponse side sw field room) m =
+      MacBreak C K.mac (inputs t.commands.wrapped) e.input (mac_of field (command_read ins field))
+  Breaks t (wrap_response side m room) field = ⊥
+  Breaks t (unwrap_response side sw field room) m =
       let e = acceptedResponse C K sw field m t.responses.accepted in
-      MacBreak C K.rmac (inputs t.responses.wrapped) e.input (macOf field (responseRead sw field))
+      MacBreak C K.rmac (inputs t.responses.wrapped) e.input (mac_of field (response_read sw field))
   Breaks t (close side) u = ⊥
 
   abbrev pub BreaksIn : Transcript → (c : Call) → Answer (Gives c) → Type 0
@@ -61,14 +61,14 @@ module _ (C : Ciphers) (K : Keys) where
   abbrev pub Excepted : State → List Call → Type 0
   Excepted st [] = ⊥
   Excepted st (c ∷ cs) =
-      BreaksIn C K st.transcript c (does C (sessionAt st (side_of c)) c).answer ⊎ Excepted (step C K st c) cs
+      BreaksIn C K st.transcript c (does C (session_at st (side_of c)) c).answer ⊎ Excepted (step C K st c) cs
 
 -- data that is wrapped is bytes
 abbrev pub CallBytes : Call → Type 0
-CallBytes (wrapCommand side m room) = IsBytes m.payload
-CallBytes (unwrapCommand side ins p1 p2 field room) = Unit {0}
-CallBytes (wrapResponse side m room) = IsBytes m.payload
-CallBytes (unwrapResponse side sw field room) = Unit {0}
+CallBytes (wrap_command side m room) = IsBytes m.payload
+CallBytes (unwrap_command side ins p1 p2 field room) = Unit {0}
+CallBytes (wrap_response side m room) = IsBytes m.payload
+CallBytes (unwrap_response side sw field room) = Unit {0}
 CallBytes (close side) = Unit {0}
 
 abbrev pub AllBytes : List Call → Type 0

@@ -2,9 +2,9 @@
 -- header, Le (or its absence) and status." Assumes nothing.
 use Rattle.std.specs.Prelude.{◌≡◌, true, ℕ, ◌+◌, ◌≤◌, ◌<◌, length}
 use Rattle.octets.specs.Bytes.{Bytes, IsBytes}
-use Rattle.field_size.specs.Lengths.{ciphertextLength, commandLength, responseLength}
-use Rattle.session_suite.specs.StoredKeys.{keyIn, KeysOfBytes, Keys}
-use Rattle.session_rules.specs.Valid.{countsAsOpen}
+use Rattle.field_size.specs.Lengths.{ciphertext_length, command_length, response_length}
+use Rattle.session_suite.specs.StoredKeys.{key_in, KeysOfBytes, Keys}
+use Rattle.session_rules.specs.Valid.{counts_as_open}
 use Rattle.session.specs.Opening.{opening}
 use Rattle.session.specs.declared.Opening.TheVariants.{Opened as Done}
 use Rattle.session.specs.declared.Side.TheVariants.{Host, Card}
@@ -12,33 +12,33 @@ use Rattle.session.specs.declared.Phase.{Phase}
 use Rattle.session.specs.declared.Phase.TheVariants.{Ready, Pending}
 use Rattle.session.specs.declared.Session.{Session}
 use Rattle.message_ciphers.specs.Ciphers.{Ciphers, IsKey}
-use Rattle.message_answer.specs.Message.{Command, Response, maxCommandData, maxResponseData, commandLimit}
-use Rattle.message_permission.specs.Permission.{commandPermitted, statusPermitted}
+use Rattle.message_answer.specs.Message.{Command, Response, max_command_data, max_response_data, command_limit}
+use Rattle.message_permission.specs.Permission.{command_permitted, status_permitted}
 use Rattle.message_answer.specs.Answer.{gave}
 use Rattle.message_protocol.specs.Command.{hostWraps, cardUnwraps}
 use Rattle.message_protocol.specs.Response.{cardWraps, hostUnwraps}
 
 -- two sessions in step: a host's and a card's, open, in one phase, with the same suite, keys, count and chaining values
 pub record InStep (phase : Phase) (h c : Session) : Type 0 where
-  pub host-open : countsAsOpen h ≡ true
-  pub card-open : countsAsOpen c ≡ true
-  pub host-side : h.side ≡ Host
-  pub card-side : c.side ≡ Card
-  pub host-phase : h.phase ≡ phase
-  pub card-phase : c.phase ≡ phase
+  pub host_open : counts_as_open h ≡ true
+  pub card_open : counts_as_open c ≡ true
+  pub host_side : h.side ≡ Host
+  pub card_side : c.side ≡ Card
+  pub host_phase : h.phase ≡ phase
+  pub card_phase : c.phase ≡ phase
   pub suites : c.suite ≡ h.suite
   pub counts : c.count ≡ h.count
   pub encs : c.sk_enc ≡ h.sk_enc
   pub macs : c.sk_mac ≡ h.sk_mac
   pub rmacs : c.sk_rmac ≡ h.sk_rmac
-  pub command-mcvs : c.command_mcv ≡ h.command_mcv
-  pub response-mcvs : c.response_mcv ≡ h.response_mcv
+  pub command_mcvs : c.command_mcv ≡ h.command_mcv
+  pub response_mcvs : c.response_mcv ≡ h.response_mcv
 
 -- the keys in a session are bytes, as many as its suite asks
 pub record Keyed (s : Session) : Type 0 where
-  pub enc : IsKey (keyIn s.suite s.sk_enc)
-  pub mac : IsKey (keyIn s.suite s.sk_mac)
-  pub rmac : IsKey (keyIn s.suite s.sk_rmac)
+  pub enc : IsKey (key_in s.suite s.sk_enc)
+  pub mac : IsKey (key_in s.suite s.sk_mac)
+  pub rmac : IsKey (key_in s.suite s.sk_rmac)
 
 -- ---- a command, from the host to the card
 
@@ -47,7 +47,7 @@ pub record CommandDelivered (C : Ciphers) (h c : Session) (m : Command) (wrapRoo
   pub host : Session
   pub card : Session
   pub wraps : hostWraps C h m wrapRoom ≡ record { answer = gave field; next = host }
-  pub sized : length field ≡ commandLength (length m.payload) m.header.le
+  pub sized : length field ≡ command_length (length m.payload) m.header.le
   pub unwraps : cardUnwraps C c m.header.ins m.header.p1 m.header.p2 field unwrapRoom
       ≡ record { answer = gave (record { payload = m.payload; le = m.header.le }); next = card }
   pub again : InStep Pending host card
@@ -57,9 +57,9 @@ pub record CommandDelivered (C : Ciphers) (h c : Session) (m : Command) (wrapRoo
 abbrev pub DeliversCommands : Ciphers → Type 0
 DeliversCommands C =
     (h c : Session) (m : Command) (wrapRoom unwrapRoom : ℕ)
-    → InStep Ready h c → Keyed h → h.count < commandLimit
-    → commandPermitted m.header (length m.payload) ≡ true → length m.payload ≤ maxCommandData → IsBytes m.payload
-    → commandLength (length m.payload) m.header.le ≤ wrapRoom → ciphertextLength (length m.payload) ≤ unwrapRoom
+    → InStep Ready h c → Keyed h → h.count < command_limit
+    → command_permitted m.header (length m.payload) ≡ true → length m.payload ≤ max_command_data → IsBytes m.payload
+    → command_length (length m.payload) m.header.le ≤ wrapRoom → ciphertext_length (length m.payload) ≤ unwrapRoom
     → CommandDelivered C h c m wrapRoom unwrapRoom
 
 -- ---- a response, from the card to the host
@@ -69,7 +69,7 @@ pub record ResponseDelivered (C : Ciphers) (h c : Session) (m : Response) (wrapR
   pub host : Session
   pub card : Session
   pub wraps : cardWraps C c m wrapRoom ≡ record { answer = gave field; next = card }
-  pub sized : length field ≡ responseLength (length m.payload)
+  pub sized : length field ≡ response_length (length m.payload)
   pub unwraps : hostUnwraps C h m.header field unwrapRoom ≡ record { answer = gave m; next = host }
   pub again : InStep Ready host card
   pub keyed : Keyed host
@@ -79,8 +79,8 @@ abbrev pub DeliversResponses : Ciphers → Type 0
 DeliversResponses C =
     (h c : Session) (m : Response) (wrapRoom unwrapRoom : ℕ)
     → InStep Pending h c → Keyed h
-    → statusPermitted m.header ≡ true → length m.payload ≤ maxResponseData → IsBytes m.payload
-    → responseLength (length m.payload) ≤ wrapRoom → ciphertextLength (length m.payload) ≤ unwrapRoom
+    → status_permitted m.header ≡ true → length m.payload ≤ max_response_data → IsBytes m.payload
+    → response_length (length m.payload) ≤ wrapRoom → ciphertext_length (length m.payload) ≤ unwrapRoom
     → ResponseDelivered C h c m wrapRoom unwrapRoom
 
 -- ---- it begins: two openings with the same keys are in step, at count 0; that they are of one suite follows

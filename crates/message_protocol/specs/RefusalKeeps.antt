@@ -10,35 +10,35 @@ use Rattle.session.specs.declared.Phase.TheVariants.{Closed}
 use Rattle.session.specs.declared.Session.{Session}
 use Rattle.message_ciphers.specs.Ciphers.{Ciphers}
 use Rattle.message_answer.specs.Answer.{refused, buffer}
-use Rattle.message_protocol.specs.Transcript.{Call, wrapCommand, unwrapCommand, wrapResponse, unwrapResponse, close, Gives, does}
+use Rattle.message_protocol.specs.Transcript.{Call, wrap_command, unwrap_command, wrap_response, unwrap_response, close, Gives, does}
 
 -- the refusals of each call; that they come in document 01's order is in the calls' definitions, and computed in proofs/Answers
 abbrev pub order : Call → List ℕ
-order (wrapCommand side m room) = 1 ∷ 2 ∷ 3 ∷ 4 ∷ 5 ∷ 6 ∷ []
-order (unwrapCommand side ins p1 p2 field room) = 1 ∷ 2 ∷ 3 ∷ 4 ∷ 5 ∷ 7 ∷ 8 ∷ 6 ∷ 9 ∷ 10 ∷ []
-order (wrapResponse side m room) = 1 ∷ 2 ∷ 3 ∷ 4 ∷ 6 ∷ []
-order (unwrapResponse side sw field room) = 1 ∷ 2 ∷ 13 ∷ 4 ∷ 7 ∷ 8 ∷ 6 ∷ 9 ∷ 10 ∷ []
+order (wrap_command side m room) = 1 ∷ 2 ∷ 3 ∷ 4 ∷ 5 ∷ 6 ∷ []
+order (unwrap_command side ins p1 p2 field room) = 1 ∷ 2 ∷ 3 ∷ 4 ∷ 5 ∷ 7 ∷ 8 ∷ 6 ∷ 9 ∷ 10 ∷ []
+order (wrap_response side m room) = 1 ∷ 2 ∷ 3 ∷ 4 ∷ 6 ∷ []
+order (unwrap_response side sw field room) = 1 ∷ 2 ∷ 13 ∷ 4 ∷ 7 ∷ 8 ∷ 6 ∷ 9 ∷ 10 ∷ []
 order (close side) = []
 
 -- what a call writes at the start of the caller's buffer
 abbrev pub writes : (c : Call) → Gives c → Bytes
-writes (wrapCommand side m room) field = field
-writes (unwrapCommand side ins p1 p2 field room) g = g.payload
-writes (wrapResponse side m room) field = field
-writes (unwrapResponse side sw field room) m = m.payload
+writes (wrap_command side m room) field = field
+writes (unwrap_command side ins p1 p2 field room) g = g.payload
+writes (wrap_response side m room) field = field
+writes (unwrap_response side sw field room) m = m.payload
 writes (close side) u = []
 
 -- closed, field by field
 pub record IsClosed (before after : Session) : Type 0 where
-  pub side-stays : after.side ≡ before.side
-  pub suite-stays : after.suite ≡ before.suite
-  pub phase-is : after.phase ≡ Closed
-  pub count-is : after.count ≡ 0
-  pub enc-is : after.sk_enc ≡ zeros 32
-  pub mac-is : after.sk_mac ≡ zeros 32
-  pub rmac-is : after.sk_rmac ≡ zeros 32
-  pub command-mcv-is : after.command_mcv ≡ zeros 16
-  pub response-mcv-is : after.response_mcv ≡ zeros 16
+  pub side_stays : after.side ≡ before.side
+  pub suite_stays : after.suite ≡ before.suite
+  pub phase_is : after.phase ≡ Closed
+  pub count_is : after.count ≡ 0
+  pub enc_is : after.sk_enc ≡ zeros 32
+  pub mac_is : after.sk_mac ≡ zeros 32
+  pub rmac_is : after.sk_rmac ≡ zeros 32
+  pub command_mcv_is : after.command_mcv ≡ zeros 16
+  pub response_mcv_is : after.response_mcv ≡ zeros 16
 
 pub record Keeps (C : Ciphers) (s : Session) (c : Call) (r : Refusal) (held : Bytes) : Type 0 where
   pub in_order : Memᴰ (number r) (order c)

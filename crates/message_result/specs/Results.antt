@@ -22,25 +22,25 @@ checked (refused r) = Failed r
 checked (gave u) = Passed
 
 -- a wrap
-abbrev pub wrapAnswer : Answer Bytes → WrapAnswer
-wrapAnswer (refused r) = NotWrapped r
-wrapAnswer (gave field) = Wrapped (length field)
+abbrev pub wrap_answer : Answer Bytes → WrapAnswer
+wrap_answer (refused r) = NotWrapped r
+wrap_answer (gave field) = Wrapped (length field)
 
-abbrev pub wrapResult : Out Bytes → WrapResult
-wrapResult out = record { answer = wrapAnswer out.answer; session = out.next }
+abbrev pub wrap_result : Out Bytes → WrapResult
+wrap_result out = record { answer = wrap_answer out.answer; session = out.next }
 
 -- the card's unwrap
-abbrev pub commandAnswer : Answer CommandGiven → CommandAnswer
-commandAnswer (refused r) = CommandRefused r
-commandAnswer (gave g) = CommandAccepted (length g.payload) g.le
+abbrev pub command_answer : Answer CommandGiven → CommandAnswer
+command_answer (refused r) = CommandRefused r
+command_answer (gave g) = CommandAccepted (length g.payload) g.le
 
-abbrev pub commandResult : Out CommandGiven → CommandResult
-commandResult out = record { answer = commandAnswer out.answer; session = out.next }
+abbrev pub command_result : Out CommandGiven → CommandResult
+command_result out = record { answer = command_answer out.answer; session = out.next }
 
 -- the host's unwrap
-abbrev pub responseAnswer : Answer Response → ResponseAnswer
-responseAnswer (refused r) = ResponseRefused r
-responseAnswer (gave m) = ResponseAccepted (length m.payload) m.header.sw1 m.header.sw2
+abbrev pub response_answer : Answer Response → ResponseAnswer
+response_answer (refused r) = ResponseRefused r
+response_answer (gave m) = ResponseAccepted (length m.payload) m.header.sw1 m.header.sw2
 
-abbrev pub responseResult : Out Response → ResponseResult
-responseResult out = record { answer = responseAnswer out.answer; session = out.next }
+abbrev pub response_result : Out Response → ResponseResult
+response_result out = record { answer = response_answer out.answer; session = out.next }

@@ -1,7 +1,7 @@
 // What the calls that wrap and unwrap give back: an answer, and the next session (document 01, "The numbered answers").
 ghost use Rattle.std.specs.Prelude.{◌≡◌};
-ghost use Rattle.message_answer.specs.Answer.{afterRefusal, notGiven};
-ghost use Rattle.message_result.specs.Results.{wrapResult, commandResult, responseResult};
+ghost use Rattle.message_answer.specs.Answer.{after_refusal, not_given};
+ghost use Rattle.message_result.specs.Results.{wrap_result, command_result, response_result};
 
 use refusal::Refusal;
 use session::Session;
@@ -54,7 +54,7 @@ pub struct ResponseResult {
 
 // A wrong MAC and wrong padding close the session; every other refusal keeps it as it was.
 fn after_refusal(session: Session, refusal: Refusal) -> Session
-    ensures { result ≡ afterRefusal session refusal }
+    ensures { result ≡ after_refusal session refusal }
 {
     let number = refusal.number();
     if number == Refusal::BadMac.number() {
@@ -68,7 +68,7 @@ fn after_refusal(session: Session, refusal: Refusal) -> Session
 
 // A refused wrap.
 pub fn refused_wrap(session: Session, refusal: Refusal) -> WrapResult
-    ensures { result ≡ wrapResult (notGiven session refusal) }
+    ensures { result ≡ wrap_result (not_given session refusal) }
 {
     let next = after_refusal(session, refusal);
     WrapResult {
@@ -79,7 +79,7 @@ pub fn refused_wrap(session: Session, refusal: Refusal) -> WrapResult
 
 // A refused unwrap of the card's.
 pub fn refused_command(session: Session, refusal: Refusal) -> CommandResult
-    ensures { result ≡ commandResult (notGiven session refusal) }
+    ensures { result ≡ command_result (not_given session refusal) }
 {
     let next = after_refusal(session, refusal);
     CommandResult {
@@ -90,7 +90,7 @@ pub fn refused_command(session: Session, refusal: Refusal) -> CommandResult
 
 // A refused unwrap of the host's.
 pub fn refused_response(session: Session, refusal: Refusal) -> ResponseResult
-    ensures { result ≡ responseResult (notGiven session refusal) }
+    ensures { result ≡ response_result (not_given session refusal) }
 {
     let next = after_refusal(session, refusal);
     ResponseResult {

@@ -2,7 +2,7 @@
 ghost use Rattle.std.specs.Prelude.{true, ◌≡◌};
 ghost use Rattle.session_rules.specs.Valid.{valid};
 ghost use Rattle.message_result.specs.Results.{checked};
-ghost use Rattle.message_protocol.specs.Command.{unwrapCommandChecks};
+ghost use Rattle.message_protocol.specs.Command.{unwrap_command_checks};
 
 use message_answer::MAX_COMMAND_FIELD;
 use message_permission::ins_permitted;
@@ -15,7 +15,7 @@ use session_turn::is_turn;
 // Tests an unwrap, with a session that keeps the rules, of a field of n bytes.
 pub fn unwrap_command_checks(session: Session, ins: u8, n: usize) -> Checked
     requires { valid session ≡ true }
-    ensures { result ≡ checked (unwrapCommandChecks session ins n) }
+    ensures { result ≡ checked (unwrap_command_checks session ins n) }
 {
     let count = session.count;
     let side = session.side;

@@ -5,10 +5,10 @@ mod open;
 
 ghost use Rattle.std.specs.Prelude.{true, ◌≡◌, ◌<◌, length};
 ghost use Rattle.session_rules.specs.Valid.{valid};
-ghost use Rattle.message_answer.specs.Message.{commandLimit};
+ghost use Rattle.message_answer.specs.Message.{command_limit};
 ghost use Rattle.message_answer.specs.Answer.{concluded, buffer};
-ghost use Rattle.message_result.specs.Results.{commandResult};
-ghost use Rattle.message_unwrap_command.specs.UnwrapCommand.{unwrapCommand, readCommand, payloadOf};
+ghost use Rattle.message_result.specs.Results.{command_result};
+ghost use Rattle.message_unwrap_command.specs.UnwrapCommand.{unwrap_command, read_command, payload_of};
 
 use checks::unwrap_command_checks;
 use field_read::{FieldRead, read_field};
@@ -28,11 +28,11 @@ fn read_command(
     field: &[u8],
     out: &mut [u8],
 ) -> CommandResult
-    requires { session.count < commandLimit }
-    ensures result { result ≡ commandResult (concluded session (readCommand session ins p1 p2
+    requires { session.count < command_limit }
+    ensures result { result ≡ command_result (concluded session (read_command session ins p1 p2
         field.now (length out.old))) }
-    ensures output { out.new ≡ buffer payloadOf out.old (concluded session
-        (readCommand session ins p1 p2 field.now (length out.old))).answer }
+    ensures output { out.new ≡ buffer payload_of out.old (concluded session
+        (read_command session ins p1 p2 field.now (length out.old))).answer }
 {
     let read = read_field(command_wanted(ins), field);
     match read {
@@ -52,10 +52,10 @@ pub fn unwrap_command_with_valid_session(
     out: &mut [u8],
 ) -> CommandResult
     requires { valid session ≡ true }
-    ensures result { result ≡ commandResult (unwrapCommand session ins p1 p2
+    ensures result { result ≡ command_result (unwrap_command session ins p1 p2
         field.now (length out.old)) }
-    ensures output { out.new ≡ buffer payloadOf out.old
-        (unwrapCommand session ins p1 p2 field.now (length out.old)).answer }
+    ensures output { out.new ≡ buffer payload_of out.old
+        (unwrap_command session ins p1 p2 field.now (length out.old)).answer }
 {
     let checked = unwrap_command_checks(session, ins, field.len());
     match checked {
@@ -73,10 +73,10 @@ pub fn unwrap_command(
     field: &[u8],
     out: &mut [u8],
 ) -> CommandResult
-    ensures result { result ≡ commandResult (unwrapCommand session ins p1 p2
+    ensures result { result ≡ command_result (unwrap_command session ins p1 p2
         field.now (length out.old)) }
-    ensures output { out.new ≡ buffer payloadOf out.old
-        (unwrapCommand session ins p1 p2 field.now (length out.old)).answer }
+    ensures output { out.new ≡ buffer payload_of out.old
+        (unwrap_command session ins p1 p2 field.now (length out.old)).answer }
 {
     if !valid(session) {
         return refused_command(session, Refusal::SessionClosed);

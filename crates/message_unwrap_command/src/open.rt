@@ -1,12 +1,12 @@
 // A command whose field was read: its MAC, its text, and the next session (SP 800-73-4 Part 2, 4.2.2 to 4.2.4).
 ghost use Rattle.std.specs.Prelude.{◌≡◌, ◌<◌, length};
 ghost use Rattle.field_laws.specs.Written.{Conforms};
-ghost use Rattle.message_answer.specs.Message.{commandLimit};
-ghost use Rattle.message_permission.specs.Permission.{commandWanted};
+ghost use Rattle.message_answer.specs.Message.{command_limit};
+ghost use Rattle.message_permission.specs.Permission.{command_wanted};
 ghost use Rattle.message_answer.specs.Answer.{concluded, buffer};
-ghost use Rattle.message_result.specs.Results.{commandResult};
+ghost use Rattle.message_result.specs.Results.{command_result};
 ghost use Rattle.message_verify.specs.VerifiedText.{received, WellSized};
-ghost use Rattle.message_unwrap_command.specs.UnwrapCommand.{openCommand, openObjects, payloadOf};
+ghost use Rattle.message_unwrap_command.specs.UnwrapCommand.{open_command, open_objects, payload_of};
 
 use field_read::Objects;
 use message_counter::command_counter;
@@ -26,11 +26,11 @@ fn open_command(
     ciphertext: &[u8],
     out: &mut [u8],
 ) -> CommandResult
-    requires { (session.count < commandLimit) × WellSized (received mac.now ciphertext.now) }
-    ensures result { result ≡ commandResult (concluded session (openCommand session le full
+    requires { (session.count < command_limit) × WellSized (received mac.now ciphertext.now) }
+    ensures result { result ≡ command_result (concluded session (open_command session le full
         (received mac.now ciphertext.now) (length out.old))) }
-    ensures output { out.new ≡ buffer payloadOf out.old (concluded session
-        (openCommand session le full (received mac.now ciphertext.now)
+    ensures output { out.new ≡ buffer payload_of out.old (concluded session
+        (open_command session le full (received mac.now ciphertext.now)
         (length out.old))).answer }
 {
     let suite = session.suite;
@@ -59,11 +59,11 @@ pub fn open_objects(
     objects: Objects,
     out: &mut [u8],
 ) -> CommandResult
-    requires { (session.count < commandLimit) × Conforms (commandWanted ins) field.now objects }
-    ensures result { result ≡ commandResult (concluded session (openObjects session ins p1 p2
+    requires { (session.count < command_limit) × Conforms (command_wanted ins) field.now objects }
+    ensures result { result ≡ command_result (concluded session (open_objects session ins p1 p2
         field.now (length out.old) objects)) }
-    ensures output { out.new ≡ buffer payloadOf out.old (concluded session
-        (openObjects session ins p1 p2 field.now (length out.old) objects)).answer }
+    ensures output { out.new ≡ buffer payload_of out.old (concluded session
+        (open_objects session ins p1 p2 field.now (length out.old) objects)).answer }
 {
     let suite = session.suite;
     let sk_mac = session.sk_mac;

@@ -1,32 +1,32 @@
 -- The host's unwrap with AES, by the function's own parameters.
 use Rattle.std.specs.Prelude.{ℕ}
 use Rattle.octets.specs.Bytes.{Bytes}
-use Rattle.field_read.specs.Field.{readField, coveredOf}
+use Rattle.field_read.specs.Field.{read_field, covered_of}
 use Rattle.field_read.specs.declared.Objects.{Objects}
 use Rattle.session.specs.declared.Session.{Session}
 use Rattle.message_answer.specs.Answer.{Answer, ◌and-then◌, Outcome, Out}
 use Rattle.message_answer.specs.Message.{Response, status}
-use Rattle.message_permission.specs.Permission.{responseWanted}
-use Rattle.message_ciphers.specs.Aes.{aesCiphers}
-use Rattle.message_verify.specs.Reading.{objectsOf}
-use Rattle.message_verify.specs.VerifiedText.{Received, receivedIn}
-use Rattle.message_protocol.specs.Response.{responseMac, openResponse as opens, hostUnwraps}
+use Rattle.message_permission.specs.Permission.{response_wanted}
+use Rattle.message_ciphers.specs.Aes.{aes_ciphers}
+use Rattle.message_verify.specs.Reading.{objects_of}
+use Rattle.message_verify.specs.VerifiedText.{Received, received_in}
+use Rattle.message_protocol.specs.Response.{responseMac, open_response as opens, hostUnwraps}
 
-abbrev pub unwrapResponse : Session → ℕ → ℕ → Bytes → ℕ → Out Response
-unwrapResponse s sw1 sw2 = hostUnwraps aesCiphers s (status sw1 sw2)
+abbrev pub unwrap_response : Session → ℕ → ℕ → Bytes → ℕ → Out Response
+unwrap_response s sw1 sw2 = hostUnwraps aes_ciphers s (status sw1 sw2)
 
 -- its stages: behind the MAC's computation, behind the reading, and behind the tests
-abbrev pub openResponse : Session → ℕ → ℕ → Bytes → Received → ℕ → Answer (Outcome Response)
-openResponse s sw1 sw2 = opens aesCiphers s (status sw1 sw2)
+abbrev pub open_response : Session → ℕ → ℕ → Bytes → Received → ℕ → Answer (Outcome Response)
+open_response s sw1 sw2 = opens aes_ciphers s (status sw1 sw2)
 
-abbrev pub openObjects : Session → ℕ → ℕ → Bytes → ℕ → Objects → Answer (Outcome Response)
-openObjects s sw1 sw2 field room o =
-    openResponse s sw1 sw2 (responseMac aesCiphers s (coveredOf field o)) (receivedIn field o) room
+abbrev pub open_objects : Session → ℕ → ℕ → Bytes → ℕ → Objects → Answer (Outcome Response)
+open_objects s sw1 sw2 field room o =
+    open_response s sw1 sw2 (responseMac aes_ciphers s (covered_of field o)) (received_in field o) room
 
-abbrev pub readResponse : Session → ℕ → ℕ → Bytes → ℕ → Answer (Outcome Response)
-readResponse s sw1 sw2 field room =
-    objectsOf (readField (responseWanted (status sw1 sw2)) field) and_then (λ o. openObjects s sw1 sw2 field room o)
+abbrev pub read_response : Session → ℕ → ℕ → Bytes → ℕ → Answer (Outcome Response)
+read_response s sw1 sw2 field room =
+    objects_of (read_field (response_wanted (status sw1 sw2)) field) and_then (λ o. open_objects s sw1 sw2 field room o)
 
 -- what stands in the caller's buffer
-abbrev pub payloadOf : Response → Bytes
-payloadOf m = m.payload
+abbrev pub payload_of : Response → Bytes
+payload_of m = m.payload

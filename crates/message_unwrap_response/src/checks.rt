@@ -3,7 +3,7 @@ ghost use Rattle.std.specs.Prelude.{true, ◌≡◌};
 ghost use Rattle.session_rules.specs.Valid.{valid};
 ghost use Rattle.message_result.specs.Results.{checked};
 ghost use Rattle.message_answer.specs.Message.{status};
-ghost use Rattle.message_protocol.specs.Response.{unwrapResponseChecks};
+ghost use Rattle.message_protocol.specs.Response.{unwrap_response_checks};
 
 use message_answer::MAX_RESPONSE_FIELD;
 use message_result::Checked;
@@ -15,7 +15,7 @@ use session_turn::is_turn;
 // Tests an unwrap, with a session that keeps the rules, of a field of n bytes, and the status word that came with it.
 pub fn unwrap_response_checks(session: Session, sw1: u8, sw2: u8, n: usize) -> Checked
     requires { valid session ≡ true }
-    ensures { result ≡ checked (unwrapResponseChecks session (status sw1 sw2) n) }
+    ensures { result ≡ checked (unwrap_response_checks session (status sw1 sw2) n) }
 {
     let side = session.side;
     let phase = session.phase;

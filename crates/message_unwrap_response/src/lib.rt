@@ -5,10 +5,10 @@ pub mod open;
 
 ghost use Rattle.std.specs.Prelude.{true, ◌≡◌, ◌≤◌, length};
 ghost use Rattle.session_rules.specs.Valid.{valid};
-ghost use Rattle.message_answer.specs.Message.{commandLimit};
+ghost use Rattle.message_answer.specs.Message.{command_limit};
 ghost use Rattle.message_answer.specs.Answer.{concluded, buffer};
-ghost use Rattle.message_result.specs.Results.{responseResult};
-ghost use Rattle.message_unwrap_response.specs.UnwrapResponse.{unwrapResponse, readResponse, payloadOf};
+ghost use Rattle.message_result.specs.Results.{response_result};
+ghost use Rattle.message_unwrap_response.specs.UnwrapResponse.{unwrap_response, read_response, payload_of};
 
 use checks::unwrap_response_checks;
 use field_read::{FieldRead, read_field};
@@ -21,11 +21,11 @@ use session_rules::valid;
 
 // Reads a response that passed its tests: refusals 7 and 8, then those of open_objects.
 fn read_response(session: Session, sw1: u8, sw2: u8, field: &[u8], out: &mut [u8]) -> ResponseResult
-    requires { session.count ≤ commandLimit }
-    ensures result { result ≡ responseResult (concluded session (readResponse session sw1 sw2
+    requires { session.count ≤ command_limit }
+    ensures result { result ≡ response_result (concluded session (read_response session sw1 sw2
         field.now (length out.old))) }
-    ensures output { out.new ≡ buffer payloadOf out.old (concluded session
-        (readResponse session sw1 sw2 field.now (length out.old))).answer }
+    ensures output { out.new ≡ buffer payload_of out.old (concluded session
+        (read_response session sw1 sw2 field.now (length out.old))).answer }
 {
     let read = read_field(response_wanted(sw1, sw2), field);
     match read {
@@ -44,10 +44,10 @@ pub fn unwrap_response_with_valid_session(
     out: &mut [u8],
 ) -> ResponseResult
     requires { valid session ≡ true }
-    ensures result { result ≡ responseResult (unwrapResponse session sw1 sw2
+    ensures result { result ≡ response_result (unwrap_response session sw1 sw2
         field.now (length out.old)) }
-    ensures output { out.new ≡ buffer payloadOf out.old
-        (unwrapResponse session sw1 sw2 field.now (length out.old)).answer }
+    ensures output { out.new ≡ buffer payload_of out.old
+        (unwrap_response session sw1 sw2 field.now (length out.old)).answer }
 {
     let checked = unwrap_response_checks(session, sw1, sw2, field.len());
     match checked {
@@ -64,10 +64,10 @@ pub fn unwrap_response(
     field: &[u8],
     out: &mut [u8],
 ) -> ResponseResult
-    ensures result { result ≡ responseResult (unwrapResponse session sw1 sw2
+    ensures result { result ≡ response_result (unwrap_response session sw1 sw2
         field.now (length out.old)) }
-    ensures output { out.new ≡ buffer payloadOf out.old
-        (unwrapResponse session sw1 sw2 field.now (length out.old)).answer }
+    ensures output { out.new ≡ buffer payload_of out.old
+        (unwrap_response session sw1 sw2 field.now (length out.old)).answer }
 {
     if !valid(session) {
         return refused_response(session, Refusal::SessionClosed);

@@ -1,12 +1,12 @@
 // A response whose field was read: its MAC, its text, and the next session (SP 800-73-4 Part 2, 4.2.2 and 4.2.5).
 ghost use Rattle.std.specs.Prelude.{◌≡◌, ◌≤◌, length};
 ghost use Rattle.field_laws.specs.Written.{Conforms};
-ghost use Rattle.message_answer.specs.Message.{status, commandLimit};
-ghost use Rattle.message_permission.specs.Permission.{responseWanted};
+ghost use Rattle.message_answer.specs.Message.{status, command_limit};
+ghost use Rattle.message_permission.specs.Permission.{response_wanted};
 ghost use Rattle.message_answer.specs.Answer.{concluded, buffer};
-ghost use Rattle.message_result.specs.Results.{responseResult};
+ghost use Rattle.message_result.specs.Results.{response_result};
 ghost use Rattle.message_verify.specs.VerifiedText.{received, WellSized};
-ghost use Rattle.message_unwrap_response.specs.UnwrapResponse.{openResponse, openObjects, payloadOf};
+ghost use Rattle.message_unwrap_response.specs.UnwrapResponse.{open_response, open_objects, payload_of};
 
 use field_read::Objects;
 use message_counter::response_counter;
@@ -27,11 +27,11 @@ pub fn open_response(
     ciphertext: &[u8],
     out: &mut [u8],
 ) -> ResponseResult
-    requires { (session.count ≤ commandLimit) × WellSized (received mac.now ciphertext.now) }
-    ensures result { result ≡ responseResult (concluded session (openResponse session sw1 sw2 full
+    requires { (session.count ≤ command_limit) × WellSized (received mac.now ciphertext.now) }
+    ensures result { result ≡ response_result (concluded session (open_response session sw1 sw2 full
         (received mac.now ciphertext.now) (length out.old))) }
-    ensures output { out.new ≡ buffer payloadOf out.old (concluded session
-        (openResponse session sw1 sw2 full (received mac.now ciphertext.now)
+    ensures output { out.new ≡ buffer payload_of out.old (concluded session
+        (open_response session sw1 sw2 full (received mac.now ciphertext.now)
         (length out.old))).answer }
 {
     let suite = session.suite;
@@ -59,11 +59,11 @@ pub fn open_objects(
     objects: Objects,
     out: &mut [u8],
 ) -> ResponseResult
-    requires { (session.count ≤ commandLimit) × Conforms (responseWanted (status sw1 sw2)) field.now objects }
-    ensures result { result ≡ responseResult (concluded session (openObjects session sw1 sw2
+    requires { (session.count ≤ command_limit) × Conforms (response_wanted (status sw1 sw2)) field.now objects }
+    ensures result { result ≡ response_result (concluded session (open_objects session sw1 sw2
         field.now (length out.old) objects)) }
-    ensures output { out.new ≡ buffer payloadOf out.old (concluded session
-        (openObjects session sw1 sw2 field.now (length out.old) objects)).answer }
+    ensures output { out.new ≡ buffer payload_of out.old (concluded session
+        (open_objects session sw1 sw2 field.now (length out.old) objects)).answer }
 {
     let suite = session.suite;
     let sk_rmac = session.sk_rmac;

@@ -9,100 +9,100 @@ use lib.ListN.{length, take, drop}
 use lib.Seq.{take-take, take_at, length-take-le}
 use Rattle.octets.specs.Bytes.{Bytes}
 use Rattle.octets.specs.Write.{over, Wrote}
-use Rattle.octets.proofs.Writing.{wrote-start}
+use Rattle.octets.proofs.Writing.{wrote_start}
 use Rattle.field_padding.specs.Padding.{unpad}
 use Rattle.field_padding.specs.declared.Unpadded.{Unpadded}
 use Rattle.field_padding.specs.declared.Unpadded.TheVariants.{Data, BadPadding}
-use Rattle.field_padding.proofs.Unpadding.{data-short}
+use Rattle.field_padding.proofs.Unpadding.{data_short}
 use Rattle.aes_key_expansion.specs.KeyExpansion.{schedule}
-use Rattle.aes.specs.Aes.{ciph as scheduleCiph, invCiph as scheduleInvCiph}
-use Rattle.mode_cbc.specs.Cbc.{cbcDecrypt}
-use Rattle.session_suite.specs.StoredKeys.{keyIn}
+use Rattle.aes.specs.Aes.{ciph as scheduleCiph, inv_ciph as scheduleInvCiph}
+use Rattle.mode_cbc.specs.Cbc.{cbc_decrypt}
+use Rattle.session_suite.specs.StoredKeys.{key_in}
 use Rattle.session_suite.specs.declared.Suite.{Suite}
-use Rattle.message_ciphers.specs.Aes.{dataIn, decryptBlocks, decrypt}
-use Rattle.message_key.specs.SessionKeys.{keySize}
-use Rattle.message_key.proofs.SessionCiphers.{same-cipher, same-inv-cipher}
+use Rattle.message_ciphers.specs.Aes.{data_in, decrypt_blocks, decrypt}
+use Rattle.message_key.specs.SessionKeys.{key_size}
+use Rattle.message_key.proofs.SessionCiphers.{same_cipher, same_inv_cipher}
 use Rattle.message_answer.specs.Answer.{buffer}
 use Rattle.message_verify.specs.Reading.{text_of}
-use Rattle.message_verify.specs.Decryption.{dataLength, Decrypted, unpadded}
+use Rattle.message_verify.specs.Decryption.{data_length, Decrypted, unpadded}
 
 -- the data at the start of a longer string
-data-at-start : (text padded : Bytes) (n : ℕ) → take n text ≡ padded → length padded ≡ n → Decrypted text n (unpad padded) (dataIn padded (unpad padded))
-unfolding dataIn
-data-at-start text padded n s l = go (unpad padded) refl
+data_at_start : (text padded : Bytes) (n : ℕ) → take n text ≡ padded → length padded ≡ n → Decrypted text n (unpad padded) (data_in padded (unpad padded))
+unfolding data_in
+data_at_start text padded n s l = go (unpad padded) refl
   where
-    go : (r : Unpadded) → unpad padded ≡ r → Decrypted text n r (dataIn padded r)
+    go : (r : Unpadded) → unpad padded ≡ r → Decrypted text n r (data_in padded r)
     go (Data k) e =
-        let h : k ≤ n = omega (arith, data-short padded k e, l) in
+        let h : k ≤ n = omega (arith, data_short padded k e, l) in
         record { is = ap some (sym (take-take k n text h) ∙ ap (take k) s); within = h }
     go BadPadding e = record { is = refl; within = omega arith }
 
 module _ (suite : Suite) (key counter ct : Bytes) (h : length key ≡ 32) where
   -- no bytes are the encrypted form of no data
-  pub no_blocks : (text : Bytes) → length ct ≡ 0 → Decrypted text (length ct) (Data 0) (decrypt (keyIn suite key) counter ct)
-  unfolding decrypt dataIn
+  pub no_blocks : (text : Bytes) → length ct ≡ 0 → Decrypted text (length ct) (Data 0) (decrypt (key_in suite key) counter ct)
+  unfolding decrypt data_in
   no_blocks text e = record { is = rw (eq-eqb (length ct) 0 e); within = omega arith }
 
   abbrev c : Bytes → Bytes
-  c = scheduleCiph (keySize suite) (schedule (keySize suite) key)
+  c = scheduleCiph (key_size suite) (schedule (key_size suite) key)
 
   abbrev d : Bytes → Bytes
-  d = scheduleInvCiph (keySize suite) (schedule (keySize suite) key)
+  d = scheduleInvCiph (key_size suite) (schedule (key_size suite) key)
 
-  decrypt-is : 0 < length ct → decrypt (keyIn suite key) counter ct ≡ dataIn (cbcDecrypt d (c counter) ct) (unpad (cbcDecrypt d (c counter) ct))
-  unfolding decrypt decryptBlocks
-  decrypt-is there =
+  decrypt_is : 0 < length ct → decrypt (key_in suite key) counter ct ≡ data_in (cbc_decrypt d (c counter) ct) (unpad (cbc_decrypt d (c counter) ct))
+  unfolding decrypt decrypt_blocks
+  decrypt_is there =
       rw (ne_eqb (length ct) 0 (λ z. omega (arith, z)))
-      (ap₂ (λ (f g : Bytes → Bytes). dataIn (cbcDecrypt g (f counter) ct) (unpad (cbcDecrypt g (f counter) ct)))
-      (sym (same-cipher suite key h)) (sym (same-inv-cipher suite key h)))
+      (ap₂ (λ (f g : Bytes → Bytes). data_in (cbc_decrypt g (f counter) ct) (unpad (cbc_decrypt g (f counter) ct)))
+      (sym (same_cipher suite key h)) (sym (same_inv_cipher suite key h)))
 
   -- copied, decrypted in place, and unpadded
   pub in_memory : 0 < length ct → (held copied text : Bytes) (n : ℕ) (r : Unpadded) → Wrote held 0 ct n copied
-      → text ≡ over copied (cbcDecrypt d (c counter) (take n copied)) → length (cbcDecrypt d (c counter) (take n copied)) ≡ n
-      → r ≡ unpad (take n text) → Decrypted text (length ct) r (decrypt (keyIn suite key) counter ct)
+      → text ≡ over copied (cbc_decrypt d (c counter) (take n copied)) → length (cbc_decrypt d (c counter) (take n copied)) ≡ n
+      → r ≡ unpad (take n text) → Decrypted text (length ct) r (decrypt (key_in suite key) counter ct)
   unfolding over
   in_memory there held copied text n r w e l u =
       let e0 : n ≡ length ct = w.end ∙ zero-add (length ct) in
-      let start : take n copied ≡ ct = wrote-start w in
-      let padded : Bytes = cbcDecrypt d (c counter) ct in
-      let same : cbcDecrypt d (c counter) (take n copied) ≡ padded = ap (cbcDecrypt d (c counter)) start in
+      let start : take n copied ≡ ct = wrote_start w in
+      let padded : Bytes = cbc_decrypt d (c counter) ct in
+      let same : cbc_decrypt d (c counter) (take n copied) ≡ padded = ap (cbc_decrypt d (c counter)) start in
       let l2 : length padded ≡ n = sym (ap length same) ∙ l in
       let front : take n text ≡ padded = ap (take n) (e ∙ ap (over copied) same) ∙ take_at padded (drop (length padded) copied) n l2 in
-      rw (u ∙ ap unpad front, decrypt-is there, ← e0) (data-at-start text padded n front l2)
+      rw (u ∙ ap unpad front, decrypt_is there, ← e0) (data_at_start text padded n front l2)
 
 -- ---- written out
 
-pub data-within : (text : Bytes) (n m : ℕ) (r : Unpadded) (d : Option Bytes) → Decrypted text n r d → r ≡ Data m → m ≤ n
-data-within text n m r d k e = rw (ap dataLength e) at k.within
+pub data_within : (text : Bytes) (n m : ℕ) (r : Unpadded) (d : Option Bytes) → Decrypted text n r d → r ≡ Data m → m ≤ n
+data_within text n m r d k e = rw (ap data_length e) at k.within
 
-pub nothing-out : (text held : Bytes) (n : ℕ) (r : Unpadded) (d : Option Bytes) → Decrypted text n r d → r ≡ BadPadding
+pub nothing_out : (text held : Bytes) (n : ℕ) (r : Unpadded) (d : Option Bytes) → Decrypted text n r d → r ≡ BadPadding
     → (BadPadding ≡ unpadded d) × (held ≡ buffer (λ (x : Bytes). x) held (text_of d))
-unfolding dataIn text_of buffer
-nothing-out text held n r d k e = let q : d ≡ none = sym k.is ∙ ap (dataIn text) e in rw q (refl, refl)
+unfolding data_in text_of buffer
+nothing_out text held n r d k e = let q : d ≡ none = sym k.is ∙ ap (data_in text) e in rw q (refl, refl)
 
-pub data-out : (text held out : Bytes) (n m : ℕ) (r : Unpadded) (d : Option Bytes) → Decrypted text n r d → n ≤ length text → (e : r ≡ Data m)
+pub data_out : (text held out : Bytes) (n m : ℕ) (r : Unpadded) (d : Option Bytes) → Decrypted text n r d → n ≤ length text → (e : r ≡ Data m)
     → out ≡ over held (take m text) → (Data m ≡ unpadded d) × (out ≡ buffer (λ (x : Bytes). x) held (text_of d))
-unfolding dataIn text_of buffer
-data-out text held out n m r d k h e o =
-    let q : d ≡ some (take m text) = sym k.is ∙ ap (dataIn text) e in
-    rw q (ap Data (sym (length-take-le m text (omega (arith, data-within text n m r d k e)))), o)
+unfolding data_in text_of buffer
+data_out text held out n m r d k h e o =
+    let q : d ≡ some (take m text) = sym k.is ∙ ap (data_in text) e in
+    rw q (ap Data (sym (length-take-le m text (omega (arith, data_within text n m r d k e)))), o)
 
 -- ---- what a caller learns
 
-no-data : {n : ℕ} {P : Type 0} → BadPadding ≡ Data n → P
-no-data e = let z : ◌≡◌ {A = ℕ} 0 1 = cc in let o : ⊥ = omega arith in absurd o
+no_data : {n : ℕ} {P : Type 0} → BadPadding ≡ Data n → P
+no_data e = let z : ◌≡◌ {A = ℕ} 0 1 = cc in let o : ⊥ = omega arith in absurd o
 
-some-data : {n : ℕ} {P : Type 0} → Data n ≡ BadPadding → P
-some-data e = let z : ◌≡◌ {A = ℕ} 0 1 = cc in let o : ⊥ = omega arith in absurd o
+some_data : {n : ℕ} {P : Type 0} → Data n ≡ BadPadding → P
+some_data e = let z : ◌≡◌ {A = ℕ} 0 1 = cc in let o : ⊥ = omega arith in absurd o
 
 pub found_none : (d : Option Bytes) (held out : Bytes) → unpadded d ≡ BadPadding → out ≡ buffer (λ (x : Bytes). x) held (text_of d)
     → (d ≡ none) × (out ≡ held)
 unfolding buffer text_of
-found_none (some x) held out e o = some-data e
+found_none (some x) held out e o = some_data e
 found_none none held out e o = (refl, o)
 
-pub found-data : (d : Option Bytes) (held out : Bytes) (n : ℕ) → unpadded d ≡ Data n → out ≡ buffer (λ (x : Bytes). x) held (text_of d)
+pub found_data : (d : Option Bytes) (held out : Bytes) (n : ℕ) → unpadded d ≡ Data n → out ≡ buffer (λ (x : Bytes). x) held (text_of d)
     → (x : Bytes) × (d ≡ some x) × (n ≡ length x) × (out ≡ over held x)
 unfolding buffer text_of
-found-data (some x) held out n e o = (x, refl, cc, o)
-found-data none held out n e o = no-data e
+found_data (some x) held out n e o = (x, refl, cc, o)
+found_data none held out n e o = no_data e

@@ -8,7 +8,7 @@ use Rattle.octets.specs.Bytes.{Bytes}
 use Rattle.field_expected.specs.declared.Wanted.{Wanted}
 use Rattle.field_read.specs.declared.Objects.{Objects}
 use Rattle.field_laws.specs.Written.{Conforms}
-use Rattle.message_verify.specs.VerifiedText.{Received, received, receivedIn, WellSized}
+use Rattle.message_verify.specs.VerifiedText.{Received, received, received_in, WellSized}
 
 -- from index start to index start + n
 abbrev slice : Bytes → ℕ → ℕ → Bytes
@@ -21,13 +21,13 @@ module _ (field : Bytes) (o : Objects) where
   abbrev slices : Received
   slices = received (slice field o.mac 8) (slice field o.ciphertext o.ciphertext_len)
 
-  pub slices-are : slices ≡ receivedIn field o
-  slices-are = ap₂ received (slice_is field o.mac 8) (slice_is field o.ciphertext o.ciphertext_len)
+  pub slices_are : slices ≡ received_in field o
+  slices_are = ap₂ received (slice_is field o.mac 8) (slice_is field o.ciphertext o.ciphertext_len)
 
-  pub slices-sized : (w : Wanted) → Conforms w field o → w.limit ≤ 16384 → WellSized slices
-  slices-sized w conforms h =
-      subst WellSized (sym slices-are) (record {
-        mac-size = length-take-le 8 (drop o.mac field) (omega (arith, length-drop o.mac field, conforms.mac-within));
+  pub slices_sized : (w : Wanted) → Conforms w field o → w.limit ≤ 16384 → WellSized slices
+  slices_sized w conforms h =
+      subst WellSized (sym slices_are) (record {
+        mac_size = length-take-le 8 (drop o.mac field) (omega (arith, length-drop o.mac field, conforms.mac_within));
         blocks = conforms.blocks.0;
         short = omega (arith, conforms.blocks.1, h);
       })

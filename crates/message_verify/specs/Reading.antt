@@ -7,10 +7,10 @@ use Rattle.field_read.specs.declared.FieldRead.TheVariants.{Read, Malformed as B
 use Rattle.message_answer.specs.Answer.{Answer, refused, gave}
 
 -- 7 at the first breach, 8 where an object is lacking at the end
-unfoldable pub objectsOf : FieldRead → Answer Objects
-objectsOf (Read o) = gave o
-objectsOf (BadField b) = refused Malformed
-objectsOf (Missing tag end) = refused MissingObject
+unfoldable pub objects_of : FieldRead → Answer Objects
+objects_of (Read o) = gave o
+objects_of (BadField b) = refused Malformed
+objects_of (Missing tag end) = refused MissingObject
 
 -- 10 where the padding is wrong
 unfoldable pub text_of : {A : Type 0} → Option A → Answer A

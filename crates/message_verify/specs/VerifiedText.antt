@@ -1,10 +1,10 @@
 -- Rules 2.5 and 6.4: the stages of an unwrap after the reading, which are the same for a command and a response: room, MAC, text.
 use Rattle.std.specs.Prelude.{◌≡◌, ℕ, ◌%◌, ◌≤◌, leb, length, take}
 use Rattle.octets.specs.Bytes.{Bytes}
-use Rattle.field_read.specs.Field.{ciphertextOf, macOf}
+use Rattle.field_read.specs.Field.{ciphertext_of, mac_of}
 use Rattle.field_read.specs.declared.Objects.{Objects}
 use Rattle.refusal.specs.declared.Refusal.TheVariants.{BufferTooSmall, BadMac}
-use Rattle.message_answer.specs.Message.{maxResponseCiphertext}
+use Rattle.message_answer.specs.Message.{max_response_ciphertext}
 use Rattle.message_answer.specs.Answer.{Answer, refused, gave, require◌else◌⨾◌}
 use Rattle.message_ciphers.specs.Ciphers.{Ciphers}
 use Rattle.message_mac.specs.Same.{same}
@@ -21,18 +21,18 @@ abbrev pub received : Bytes → Bytes → Received
 received mac ciphertext = record { mac = mac; ciphertext = ciphertext }
 
 -- in a field whose objects are these
-abbrev pub receivedIn : Bytes → Objects → Received
-receivedIn field o = received (macOf field o) (ciphertextOf field o)
+abbrev pub received_in : Bytes → Objects → Received
+received_in field o = received (mac_of field o) (ciphertext_of field o)
 
 -- as a field that is read holds it: a MAC of eight bytes, and whole blocks up to the longest ciphertext
 pub record WellSized (r : Received) : Type 0 where
-  pub mac-size : length r.mac ≡ 8
+  pub mac_size : length r.mac ≡ 8
   pub blocks : length r.ciphertext % 16 ≡ 0
-  pub short : length r.ciphertext ≤ maxResponseCiphertext
+  pub short : length r.ciphertext ≤ max_response_ciphertext
 
 -- the data, by SK_ENC, the message's counter, the full MAC that was computed, what was received, and the buffer's size
-unfoldable pub verifiedText : Ciphers → Bytes → Bytes → Bytes → Received → ℕ → Answer Bytes
-verifiedText C key counter full r room =
+unfoldable pub verified_text : Ciphers → Bytes → Bytes → Bytes → Received → ℕ → Answer Bytes
+verified_text C key counter full r room =
     require leb (length r.ciphertext) room else BufferTooSmall (length r.ciphertext) ⨾
     require same r.mac (take 8 full) else BadMac ⨾
     text_of (C.decrypt key counter r.ciphertext)

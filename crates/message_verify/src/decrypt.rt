@@ -1,11 +1,11 @@
 // The data of a message, decrypted under the counter of its number (SP 800-73-4 Part 2, 4.2.2). It stands in this crate's own memory until its
 // padding is right; only then it is written to the caller's buffer.
 ghost use Rattle.std.specs.Prelude.{◌≡◌, ◌<◌, ◌≤◌, ◌%◌, length, take};
-ghost use Rattle.message_answer.specs.Message.{maxResponseCiphertext};
+ghost use Rattle.message_answer.specs.Message.{max_response_ciphertext};
 ghost use Rattle.octets.specs.Write.{over};
-ghost use Rattle.aes.specs.Aes.{invCiph};
-ghost use Rattle.mode_cbc.specs.Cbc.{cbcDecrypt};
-ghost use Rattle.session_suite.specs.StoredKeys.{keyIn};
+ghost use Rattle.aes.specs.Aes.{inv_ciph};
+ghost use Rattle.mode_cbc.specs.Cbc.{cbc_decrypt};
+ghost use Rattle.session_suite.specs.StoredKeys.{key_in};
 ghost use Rattle.message_ciphers.specs.Aes.{decrypt};
 ghost use Rattle.message_answer.specs.Answer.{buffer};
 ghost use Rattle.message_verify.specs.Reading.{text_of};
@@ -22,8 +22,8 @@ use session_suite::Suite;
 fn decrypt_start(size: KeySize, w: &[[u8; 4]; 60], iv: [u8; 16], text: &mut [u8], n: usize)
     requires { (n % 16 ≡ 0) × (n ≤ length text.old) }
     ensures text { text.new ≡
-        over text.old (cbcDecrypt (invCiph size w.now) iv (take n text.old)) }
-    ensures length { length (cbcDecrypt (invCiph size w.now) iv (take n text.old)) ≡ n }
+        over text.old (cbc_decrypt (inv_ciph size w.now) iv (take n text.old)) }
+    ensures length { length (cbc_decrypt (inv_ciph size w.now) iv (take n text.old)) ≡ n }
 {
     mode_cbc::decrypt(size, w, iv, &mut text[..n]);
 }
@@ -39,7 +39,7 @@ fn decrypt_some(
     requires { (0 < length ciphertext.now) × (length ciphertext.now % 16 ≡ 0)
         × (length ciphertext.now ≤ length text.old) }
     ensures { Decrypted text.new (length ciphertext.now) result
-        (decrypt (keyIn suite sk_enc) counter ciphertext.now) }
+        (decrypt (key_in suite sk_enc) counter ciphertext.now) }
 {
     let w = expanded(suite, sk_enc);
     let size = key_size(suite);
@@ -59,7 +59,7 @@ fn decrypt_blocks(
 ) -> Unpadded
     requires { (length ciphertext.now % 16 ≡ 0) × (length ciphertext.now ≤ length text.old) }
     ensures { Decrypted text.new (length ciphertext.now) result
-        (decrypt (keyIn suite sk_enc) counter ciphertext.now) }
+        (decrypt (key_in suite sk_enc) counter ciphertext.now) }
 {
     if ciphertext.len() == 0 {
         return Unpadded::Data(0);
@@ -79,9 +79,9 @@ fn decrypt_by_memory(
 ) -> Unpadded
     requires { (length ciphertext.now % 16 ≡ 0) × (length ciphertext.now ≤ length text.old)
         × (length ciphertext.now ≤ length out.old) }
-    ensures answer { result ≡ unpadded (decrypt (keyIn suite sk_enc) counter ciphertext.now) }
+    ensures answer { result ≡ unpadded (decrypt (key_in suite sk_enc) counter ciphertext.now) }
     ensures output { out.new ≡ buffer (λ d. d) out.old
-        (text_of (decrypt (keyIn suite sk_enc) counter ciphertext.now)) }
+        (text_of (decrypt (key_in suite sk_enc) counter ciphertext.now)) }
 {
     let found = decrypt_blocks(suite, sk_enc, counter, ciphertext, text);
     let Unpadded::Data(n) = found else {
@@ -99,11 +99,11 @@ pub fn decrypt_text(
     ciphertext: &[u8],
     out: &mut [u8],
 ) -> Unpadded
-    requires { (length ciphertext.now % 16 ≡ 0) × (length ciphertext.now ≤ maxResponseCiphertext)
+    requires { (length ciphertext.now % 16 ≡ 0) × (length ciphertext.now ≤ max_response_ciphertext)
         × (length ciphertext.now ≤ length out.old) }
-    ensures answer { result ≡ unpadded (decrypt (keyIn suite sk_enc) counter ciphertext.now) }
+    ensures answer { result ≡ unpadded (decrypt (key_in suite sk_enc) counter ciphertext.now) }
     ensures output { out.new ≡ buffer (λ d. d) out.old
-        (text_of (decrypt (keyIn suite sk_enc) counter ciphertext.now)) }
+        (text_of (decrypt (key_in suite sk_enc) counter ciphertext.now)) }
 {
     let mut text = [0u8; 16384];
     decrypt_by_memory(suite, sk_enc, counter, ciphertext, &mut text, out)

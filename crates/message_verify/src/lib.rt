@@ -3,10 +3,10 @@
 mod decrypt;
 
 ghost use Rattle.std.specs.Prelude.{◌≡◌, length};
-ghost use Rattle.session_suite.specs.StoredKeys.{keyIn};
+ghost use Rattle.session_suite.specs.StoredKeys.{key_in};
 ghost use Rattle.message_answer.specs.Answer.{buffer};
-ghost use Rattle.message_ciphers.specs.Aes.{aesCiphers};
-ghost use Rattle.message_verify.specs.VerifiedText.{received, WellSized, verified, verifiedText};
+ghost use Rattle.message_ciphers.specs.Aes.{aes_ciphers};
+ghost use Rattle.message_verify.specs.VerifiedText.{received, WellSized, verified, verified_text};
 
 use decrypt::decrypt_text;
 use field_padding::Unpadded;
@@ -32,10 +32,10 @@ pub fn verified_text(
     out: &mut [u8],
 ) -> Verified
     requires { WellSized (received mac.now ciphertext.now) }
-    ensures answer { result ≡ verified (verifiedText aesCiphers (keyIn suite sk_enc) counter full
+    ensures answer { result ≡ verified (verified_text aes_ciphers (key_in suite sk_enc) counter full
         (received mac.now ciphertext.now) (length out.old)) }
     ensures output { out.new ≡ buffer (λ d. d) out.old
-        (verifiedText aesCiphers (keyIn suite sk_enc) counter full
+        (verified_text aes_ciphers (key_in suite sk_enc) counter full
         (received mac.now ciphertext.now) (length out.old)) }
 {
     let needed = ciphertext.len();

@@ -2,10 +2,10 @@
 use Rattle.std.specs.Prelude.{Bool, ℕ}
 use Rattle.octets.specs.Bytes.{Bytes}
 use Rattle.session.specs.declared.Session.{Session}
-use Rattle.message_ciphers.specs.Aes.{aesCiphers}
+use Rattle.message_ciphers.specs.Aes.{aes_ciphers}
 use Rattle.message_answer.specs.Message.{header}
 use Rattle.message_answer.specs.Answer.{Out}
 use Rattle.message_protocol.specs.Command.{hostWraps}
 
-abbrev pub wrapCommand : Session → ℕ → ℕ → ℕ → Bool → Bytes → ℕ → Out Bytes
-wrapCommand s ins p1 p2 le d room = hostWraps aesCiphers s (record { header = header ins p1 p2 le; payload = d }) room
+abbrev pub wrap_command : Session → ℕ → ℕ → ℕ → Bool → Bytes → ℕ → Out Bytes
+wrap_command s ins p1 p2 le d room = hostWraps aes_ciphers s (record { header = header ins p1 p2 le; payload = d }) room

@@ -2,10 +2,10 @@
 use Rattle.std.specs.Prelude.{Bool, ℕ}
 use Rattle.octets.specs.Bytes.{Bytes}
 use Rattle.session.specs.declared.Session.{Session}
-use Rattle.message_ciphers.specs.Aes.{aesCiphers}
+use Rattle.message_ciphers.specs.Aes.{aes_ciphers}
 use Rattle.message_answer.specs.Message.{header}
 use Rattle.message_answer.specs.Answer.{Outcome}
 use Rattle.message_protocol.specs.Command.{commandCiphertext, commandWrapped}
 
-abbrev pub commandWritten : Session → ℕ → ℕ → ℕ → Bool → Bytes → Outcome Bytes
-commandWritten s ins p1 p2 le d = commandWrapped aesCiphers s (header ins p1 p2 le) (commandCiphertext aesCiphers s d)
+abbrev pub command_written : Session → ℕ → ℕ → ℕ → Bool → Bytes → Outcome Bytes
+command_written s ins p1 p2 le d = commandWrapped aes_ciphers s (header ins p1 p2 le) (commandCiphertext aes_ciphers s d)

@@ -3,7 +3,7 @@ ghost use Rattle.std.specs.Prelude.{true, ◌≡◌};
 ghost use Rattle.session_rules.specs.Valid.{valid};
 ghost use Rattle.message_result.specs.Results.{checked};
 ghost use Rattle.message_answer.specs.Message.{header};
-ghost use Rattle.message_protocol.specs.Command.{wrapCommandChecks};
+ghost use Rattle.message_protocol.specs.Command.{wrap_command_checks};
 
 use field_size::command_length;
 use message_answer::MAX_COMMAND_DATA;
@@ -25,7 +25,7 @@ pub fn wrap_command_checks(
     room: usize,
 ) -> Checked
     requires { valid session ≡ true }
-    ensures { result ≡ checked (wrapCommandChecks session (header ins p1 p2 le) n room) }
+    ensures { result ≡ checked (wrap_command_checks session (header ins p1 p2 le) n room) }
 {
     let count = session.count;
     let side = session.side;

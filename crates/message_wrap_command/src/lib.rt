@@ -8,8 +8,8 @@ ghost use Rattle.octets.specs.Bytes.{IsBytes};
 ghost use Rattle.session_rules.specs.Valid.{valid};
 ghost use Rattle.message_answer.specs.Answer.{buffer};
 ghost use Rattle.message_protocol.specs.HonestDelivery.{Keyed};
-ghost use Rattle.message_result.specs.Results.{wrapResult};
-ghost use Rattle.message_wrap_command.specs.WrapCommand.{wrapCommand};
+ghost use Rattle.message_result.specs.Results.{wrap_result};
+ghost use Rattle.message_wrap_command.specs.WrapCommand.{wrap_command};
 
 use checks::wrap_command_checks;
 use message_result::{Checked, WrapResult, refused_wrap};
@@ -30,9 +30,9 @@ pub fn wrap_command_with_valid_session(
     out: &mut [u8],
 ) -> WrapResult
     requires { valid session ≡ true }
-    ensures result { result ≡ wrapResult (wrapCommand session ins p1 p2 le «data».now (length out.old)) }
+    ensures result { result ≡ wrap_result (wrap_command session ins p1 p2 le «data».now (length out.old)) }
     ensures output { out.new ≡ buffer (λ field. field) out.old
-        (wrapCommand session ins p1 p2 le «data».now (length out.old)).answer }
+        (wrap_command session ins p1 p2 le «data».now (length out.old)).answer }
     ensures bytes { IsBytes «data».now }
     ensures keyed { Keyed session }
 {
@@ -54,9 +54,9 @@ pub fn wrap_command(
     data: &[u8],
     out: &mut [u8],
 ) -> WrapResult
-    ensures result { result ≡ wrapResult (wrapCommand session ins p1 p2 le «data».now (length out.old)) }
+    ensures result { result ≡ wrap_result (wrap_command session ins p1 p2 le «data».now (length out.old)) }
     ensures output { out.new ≡ buffer (λ field. field) out.old
-        (wrapCommand session ins p1 p2 le «data».now (length out.old)).answer }
+        (wrap_command session ins p1 p2 le «data».now (length out.old)).answer }
     ensures bytes { IsBytes «data».now }
     ensures keyed { Keyed session }
 {

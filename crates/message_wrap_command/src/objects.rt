@@ -1,10 +1,10 @@
 // The objects of a command that its MAC covers, with the data encrypted (SP 800-73-4 Part 2, 4.2.2 and 4.2.3).
 ghost use Rattle.std.specs.Prelude.{◌+◌, ◌<◌, ◌≤◌, length};
-ghost use Rattle.message_answer.specs.Message.{maxCommandData, commandLimit};
+ghost use Rattle.message_answer.specs.Message.{max_command_data, command_limit};
 ghost use Rattle.octets.specs.Write.{Wrote};
-ghost use Rattle.field_write.specs.Objects.{commandObjects};
-ghost use Rattle.field_size.specs.Lengths.{commandLength};
-ghost use Rattle.message_ciphers.specs.Aes.{aesCiphers};
+ghost use Rattle.field_write.specs.Objects.{command_objects};
+ghost use Rattle.field_size.specs.Lengths.{command_length};
+ghost use Rattle.message_ciphers.specs.Aes.{aes_ciphers};
 ghost use Rattle.message_protocol.specs.Command.{commandCiphertext};
 
 use field_write::put_command_objects;
@@ -14,8 +14,8 @@ use session::Session;
 
 // The objects that the MAC covers, from index 0 on; the index behind them.
 pub fn put_objects(session: Session, le: bool, data: &[u8], out: &mut [u8]) -> usize
-    requires { (session.count < commandLimit) × (length «data».now ≤ maxCommandData) × (commandLength (length «data».now) le ≤ length out.old) }
-    ensures objects { Wrote out.old 0 (commandObjects (commandCiphertext aesCiphers session «data».now) le) result out.new }
+    requires { (session.count < command_limit) × (length «data».now ≤ max_command_data) × (command_length (length «data».now) le ≤ length out.old) }
+    ensures objects { Wrote out.old 0 (command_objects (commandCiphertext aes_ciphers session «data».now) le) result out.new }
     ensures room { result + 10 ≤ length out.old }
 {
     let suite = session.suite;

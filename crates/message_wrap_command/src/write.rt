@@ -1,11 +1,11 @@
 // A command that passed its tests, written: its objects, their MAC, and the next session (SP 800-73-4 Part 2, 4.2.2 to 4.2.4).
 ghost use Rattle.std.specs.Prelude.{◌≡◌, ◌<◌, ◌≤◌, length};
-ghost use Rattle.message_answer.specs.Message.{maxCommandData, commandLimit};
+ghost use Rattle.message_answer.specs.Message.{max_command_data, command_limit};
 ghost use Rattle.octets.specs.Write.{over};
-ghost use Rattle.field_size.specs.Lengths.{commandLength};
+ghost use Rattle.field_size.specs.Lengths.{command_length};
 ghost use Rattle.message_answer.specs.Answer.{given};
-ghost use Rattle.message_result.specs.Results.{wrapResult};
-ghost use Rattle.message_wrap_command.specs.WrittenCommand.{commandWritten};
+ghost use Rattle.message_result.specs.Results.{wrap_result};
+ghost use Rattle.message_wrap_command.specs.WrittenCommand.{command_written};
 
 use crate::objects::put_objects;
 use field_write::put_mac;
@@ -24,9 +24,9 @@ pub fn write_command(
     data: &[u8],
     out: &mut [u8],
 ) -> WrapResult
-    requires { (session.count < commandLimit) × (length «data».now ≤ maxCommandData) × (commandLength (length «data».now) le ≤ length out.old) }
-    ensures result { result ≡ wrapResult (given (commandWritten session ins p1 p2 le «data».now)) }
-    ensures output { out.new ≡ over out.old (commandWritten session ins p1 p2 le «data».now).gives }
+    requires { (session.count < command_limit) × (length «data».now ≤ max_command_data) × (command_length (length «data».now) le ≤ length out.old) }
+    ensures result { result ≡ wrap_result (given (command_written session ins p1 p2 le «data».now)) }
+    ensures output { out.new ≡ over out.old (command_written session ins p1 p2 le «data».now).gives }
 {
     let suite = session.suite;
     let sk_mac = session.sk_mac;

@@ -2,10 +2,10 @@
 use Rattle.std.specs.Prelude.{ℕ}
 use Rattle.octets.specs.Bytes.{Bytes}
 use Rattle.session.specs.declared.Session.{Session}
-use Rattle.message_ciphers.specs.Aes.{aesCiphers}
+use Rattle.message_ciphers.specs.Aes.{aes_ciphers}
 use Rattle.message_answer.specs.Message.{status}
 use Rattle.message_answer.specs.Answer.{Out}
 use Rattle.message_protocol.specs.Response.{cardWraps}
 
-abbrev pub wrapResponse : Session → ℕ → ℕ → Bytes → ℕ → Out Bytes
-wrapResponse s sw1 sw2 d room = cardWraps aesCiphers s (record { header = status sw1 sw2; payload = d }) room
+abbrev pub wrap_response : Session → ℕ → ℕ → Bytes → ℕ → Out Bytes
+wrap_response s sw1 sw2 d room = cardWraps aes_ciphers s (record { header = status sw1 sw2; payload = d }) room

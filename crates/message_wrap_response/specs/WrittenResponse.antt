@@ -2,10 +2,10 @@
 use Rattle.std.specs.Prelude.{ℕ}
 use Rattle.octets.specs.Bytes.{Bytes}
 use Rattle.session.specs.declared.Session.{Session}
-use Rattle.message_ciphers.specs.Aes.{aesCiphers}
+use Rattle.message_ciphers.specs.Aes.{aes_ciphers}
 use Rattle.message_answer.specs.Message.{status}
 use Rattle.message_answer.specs.Answer.{Outcome}
 use Rattle.message_protocol.specs.Response.{responseCiphertext, responseWrapped}
 
-abbrev pub responseWritten : Session → ℕ → ℕ → Bytes → Outcome Bytes
-responseWritten s sw1 sw2 d = responseWrapped aesCiphers s (status sw1 sw2) (responseCiphertext aesCiphers s d)
+abbrev pub response_written : Session → ℕ → ℕ → Bytes → Outcome Bytes
+response_written s sw1 sw2 d = responseWrapped aes_ciphers s (status sw1 sw2) (responseCiphertext aes_ciphers s d)

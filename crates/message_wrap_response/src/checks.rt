@@ -3,7 +3,7 @@ ghost use Rattle.std.specs.Prelude.{true, ◌≡◌};
 ghost use Rattle.session_rules.specs.Valid.{valid};
 ghost use Rattle.message_result.specs.Results.{checked};
 ghost use Rattle.message_answer.specs.Message.{status};
-ghost use Rattle.message_protocol.specs.Response.{wrapResponseChecks};
+ghost use Rattle.message_protocol.specs.Response.{wrap_response_checks};
 
 use field_size::response_length;
 use message_answer::MAX_RESPONSE_DATA;
@@ -17,7 +17,7 @@ use session_turn::is_turn;
 // Tests a wrap, with a session that keeps the rules, of a response with n bytes of data into a buffer of that size.
 pub fn wrap_response_checks(session: Session, sw1: u8, sw2: u8, n: usize, room: usize) -> Checked
     requires { valid session ≡ true }
-    ensures { result ≡ checked (wrapResponseChecks session (status sw1 sw2) n room) }
+    ensures { result ≡ checked (wrap_response_checks session (status sw1 sw2) n room) }
 {
     let side = session.side;
     let phase = session.phase;

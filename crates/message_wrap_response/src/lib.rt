@@ -9,8 +9,8 @@ ghost use Rattle.octets.specs.Bytes.{IsBytes};
 ghost use Rattle.session_rules.specs.Valid.{valid};
 ghost use Rattle.message_answer.specs.Answer.{buffer};
 ghost use Rattle.message_protocol.specs.HonestDelivery.{Keyed};
-ghost use Rattle.message_result.specs.Results.{wrapResult};
-ghost use Rattle.message_wrap_response.specs.WrapResponse.{wrapResponse};
+ghost use Rattle.message_result.specs.Results.{wrap_result};
+ghost use Rattle.message_wrap_response.specs.WrapResponse.{wrap_response};
 
 use checks::wrap_response_checks;
 use message_result::{Checked, WrapResult, refused_wrap};
@@ -29,9 +29,9 @@ pub fn wrap_response_with_valid_session(
     out: &mut [u8],
 ) -> WrapResult
     requires { valid session ≡ true }
-    ensures result { result ≡ wrapResult (wrapResponse session sw1 sw2 «data».now (length out.old)) }
+    ensures result { result ≡ wrap_result (wrap_response session sw1 sw2 «data».now (length out.old)) }
     ensures output { out.new ≡ buffer (λ field. field) out.old
-        (wrapResponse session sw1 sw2 «data».now (length out.old)).answer }
+        (wrap_response session sw1 sw2 «data».now (length out.old)).answer }
     ensures bytes { IsBytes «data».now }
     ensures keyed { Keyed session }
 {
@@ -45,9 +45,9 @@ pub fn wrap_response_with_valid_session(
 // A status word with its data, as a field in the caller's buffer: refusals 1, 2, 3, 4 and 6.
 // `bytes` and `keyed` are what the types say of the arguments; the demands use them.
 pub fn wrap_response(session: Session, sw1: u8, sw2: u8, data: &[u8], out: &mut [u8]) -> WrapResult
-    ensures result { result ≡ wrapResult (wrapResponse session sw1 sw2 «data».now (length out.old)) }
+    ensures result { result ≡ wrap_result (wrap_response session sw1 sw2 «data».now (length out.old)) }
     ensures output { out.new ≡ buffer (λ field. field) out.old
-        (wrapResponse session sw1 sw2 «data».now (length out.old)).answer }
+        (wrap_response session sw1 sw2 «data».now (length out.old)).answer }
     ensures bytes { IsBytes «data».now }
     ensures keyed { Keyed session }
 {

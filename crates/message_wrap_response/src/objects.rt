@@ -1,10 +1,10 @@
 // The objects of a response that its MAC covers, with the data encrypted (SP 800-73-4 Part 2, 4.2.2 and 4.2.5).
 ghost use Rattle.std.specs.Prelude.{◌+◌, ◌≤◌, length};
-ghost use Rattle.message_answer.specs.Message.{maxResponseData, commandLimit};
+ghost use Rattle.message_answer.specs.Message.{max_response_data, command_limit};
 ghost use Rattle.octets.specs.Write.{Wrote};
-ghost use Rattle.field_write.specs.Objects.{responseObjects};
-ghost use Rattle.field_size.specs.Lengths.{responseLength};
-ghost use Rattle.message_ciphers.specs.Aes.{aesCiphers};
+ghost use Rattle.field_write.specs.Objects.{response_objects};
+ghost use Rattle.field_size.specs.Lengths.{response_length};
+ghost use Rattle.message_ciphers.specs.Aes.{aes_ciphers};
 ghost use Rattle.message_protocol.specs.Response.{responseCiphertext};
 
 use field_write::put_response_objects;
@@ -14,8 +14,8 @@ use session::Session;
 
 // The objects that the MAC covers, from index 0 on; the index behind them.
 pub fn put_objects(session: Session, sw1: u8, sw2: u8, data: &[u8], out: &mut [u8]) -> usize
-    requires { (session.count ≤ commandLimit) × (length «data».now ≤ maxResponseData) × (responseLength (length «data».now) ≤ length out.old) }
-    ensures objects { Wrote out.old 0 (responseObjects (responseCiphertext aesCiphers session «data».now) sw1 sw2) result out.new }
+    requires { (session.count ≤ command_limit) × (length «data».now ≤ max_response_data) × (response_length (length «data».now) ≤ length out.old) }
+    ensures objects { Wrote out.old 0 (response_objects (responseCiphertext aes_ciphers session «data».now) sw1 sw2) result out.new }
     ensures room { result + 10 ≤ length out.old }
 {
     let suite = session.suite;

@@ -8,31 +8,31 @@ use lib.ListN.{length, take, drop, length-append}
 use lib.Seq.{take_at, drop_at, take_all, drop-drop, length-take-le}
 use Rattle.octets.specs.Bytes.{Bytes, ◌xor◌}
 use Rattle.octets.specs.Write.{put}
-use Rattle.mode_cbc.specs.Cbc.{blocks, joined, encryptBlocks, decryptBlocks, cbcEncrypt, cbcDecrypt}
+use Rattle.mode_cbc.specs.Cbc.{blocks, joined, encrypt_blocks, decrypt_blocks, cbc_encrypt, cbc_decrypt}
 
 -- the blocks put so far
 head : Bytes → ℕ → Bytes → Bytes
 head xs at c = take at xs ++ c
 
-head-length : (xs : Bytes) (at : ℕ) (c : Bytes) → at ≤ length xs → length (head xs at c) ≡ at + length c
+head_length : (xs : Bytes) (at : ℕ) (c : Bytes) → at ≤ length xs → length (head xs at c) ≡ at + length c
 unfolding head
-head-length xs at c h = simp (length-append, length-take-le at xs h)
+head_length xs at c h = simp (length-append, length-take-le at xs h)
 
-head-join : (xs : Bytes) (at : ℕ) (c t : Bytes) → head xs at c ++ t ≡ take at xs ++ (c ++ t)
+head_join : (xs : Bytes) (at : ℕ) (c t : Bytes) → head xs at c ++ t ≡ take at xs ++ (c ++ t)
 unfolding head
-head-join xs at c t = append_assoc (take at xs) c t
+head_join xs at c t = append_assoc (take at xs) c t
 
-put-head : (xs : Bytes) (at : ℕ) (c : Bytes) → put xs at c ≡ head xs at c ++ drop (at + length c) xs
+put_head : (xs : Bytes) (at : ℕ) (c : Bytes) → put xs at c ≡ head xs at c ++ drop (at + length c) xs
 unfolding head put
-put-head xs at c = refl
+put_head xs at c = refl
 
 -- the buffer b with i of its n blocks done, and what the mode makes of the others
 unfoldable pub pending : (Bytes → List Bytes → List Bytes) → ℕ → Bytes → ℕ → Bytes → Bytes
 pending mode n v i b = take (16 * i) b ++ joined (mode v (blocks (n - i) (drop (16 * i) b)))
 
-pending-start : (mode : Bytes → List Bytes → List Bytes) (n : ℕ) (v b : Bytes) → pending mode n v 0 b ≡ joined (mode v (blocks n b))
+pending_start : (mode : Bytes → List Bytes → List Bytes) (n : ℕ) (v b : Bytes) → pending mode n v 0 b ≡ joined (mode v (blocks n b))
 unfolding pending
-pending-start mode n v b = let e : n - 0 ≡ n = omega arith in ap (λ (m : ℕ). joined (mode v (blocks m b))) e
+pending_start mode n v b = let e : n - 0 ≡ n = omega arith in ap (λ (m : ℕ). joined (mode v (blocks m b))) e
 
 -- f: what a block x gives after the block or IV v; g: what the next block is worked with
 module _ (f g : Bytes → Bytes → Bytes) (mode : Bytes → List Bytes → List Bytes)
@@ -42,31 +42,31 @@ module _ (f g : Bytes → Bytes → Bytes) (mode : Bytes → List Bytes → List
   unfolding blocks joined
   rest m v d = ap joined (some v (take 16 d) (blocks m (drop 16 d)))
 
-  pub pending-more : (n i : ℕ) (v b : Bytes) {x c u b' : Bytes} → i < n → 16 * n ≤ length b
+  pub pending_more : (n i : ℕ) (v b : Bytes) {x c u b' : Bytes} → i < n → 16 * n ≤ length b
       → x ≡ take 16 (drop (16 * i) b) → c ≡ f v x → length c ≡ 16 → u ≡ g v x → b' ≡ put b (16 * i) c
       → pending mode n u (i + 1) b' ≡ pending mode n v i b
   unfolding pending
-  pending-more n i v b {x} {c} {u} {b'} h k ex ec lc eu eb =
+  pending_more n i v b {x} {c} {u} {b'} h k ex ec lc eu eb =
       let d : Bytes = drop (16 * i) b in
       let m : ℕ = n - (i + 1) in
       let p : Bytes = head b (16 * i) c in
       let q : Bytes = drop (16 * i + length c) b in
-      let lp : length p ≡ 16 * (i + 1) = head-length b (16 * i) c (omega arith) ∙ omega (arith, lc) in
-      let e : b' ≡ p ++ q = eb ∙ put-head b (16 * i) c in
+      let lp : length p ≡ 16 * (i + 1) = head_length b (16 * i) c (omega arith) ∙ omega (arith, lc) in
+      let e : b' ≡ p ++ q = eb ∙ put_head b (16 * i) c in
       let et : take (16 * (i + 1)) b' ≡ p = ap (take (16 * (i + 1))) e ∙ take_at p q (16 * (i + 1)) lp in
       let ed : drop (16 * (i + 1)) b' ≡ drop 16 d =
       ap (drop (16 * (i + 1))) e ∙ drop_at p q (16 * (i + 1)) lp ∙ ap (λ (l : ℕ). drop (16 * i + l) b) lc
       ∙ sym (drop-drop 16 (16 * i) b) in
       ap₂ (λ (s t : Bytes). s ++ joined (mode u (blocks m t))) et ed
-      ∙ head-join b (16 * i) c (joined (mode u (blocks m (drop 16 d))))
+      ∙ head_join b (16 * i) c (joined (mode u (blocks m (drop 16 d))))
       ∙ ap (λ (s : Bytes). take (16 * i) b ++ s)
       (ap₂ (λ (s t : Bytes). s ++ joined (mode t (blocks m (drop 16 d)))) (ec ∙ ap (f v) ex) (eu ∙ ap (g v) ex)
       ∙ sym (rest m v d)
       ∙ ap (λ (l : ℕ). joined (mode v (blocks l d))) (omega arith))
 
-  pub pending-end : (n i : ℕ) (v b : Bytes) → n ≤ i → length b ≤ 16 * i → pending mode n v i b ≡ b
+  pub pending_end : (n i : ℕ) (v b : Bytes) → n ≤ i → length b ≤ 16 * i → pending mode n v i b ≡ b
   unfolding pending blocks joined
-  pending-end n i v b h k =
+  pending_end n i v b h k =
       let e : n - i ≡ 0 = omega arith in
       ap₂ (λ (s : Bytes) (m : ℕ). s ++ joined (mode v (blocks m (drop (16 * i) b)))) (take_all (16 * i) b k) e
       ∙ ap (λ (t : List Bytes). b ++ joined t) (none v) ∙ append-nil b
@@ -77,53 +77,53 @@ module _ (ciph : Bytes → Bytes) where
   next : Bytes → Bytes → Bytes
   next v x = ciph (x xor v)
 
-  some : (v x : Bytes) (xs : List Bytes) → encryptBlocks ciph v (x ∷ xs) ≡ next v x ∷ encryptBlocks ciph (next v x) xs
-  unfolding next encryptBlocks
+  some : (v x : Bytes) (xs : List Bytes) → encrypt_blocks ciph v (x ∷ xs) ≡ next v x ∷ encrypt_blocks ciph (next v x) xs
+  unfolding next encrypt_blocks
   some v x xs = refl
 
-  none : (v : Bytes) → encryptBlocks ciph v [] ≡ []
-  unfolding encryptBlocks
+  none : (v : Bytes) → encrypt_blocks ciph v [] ≡ []
+  unfolding encrypt_blocks
   none v = refl
 
-  pub encrypt-start : (iv xs : Bytes) → pending (encryptBlocks ciph) (length xs / 16) iv 0 xs ≡ cbcEncrypt ciph iv xs
-  unfolding cbcEncrypt
-  encrypt-start iv xs = pending-start (encryptBlocks ciph) (length xs / 16) iv xs
+  pub encrypt_start : (iv xs : Bytes) → pending (encrypt_blocks ciph) (length xs / 16) iv 0 xs ≡ cbc_encrypt ciph iv xs
+  unfolding cbc_encrypt
+  encrypt_start iv xs = pending_start (encrypt_blocks ciph) (length xs / 16) iv xs
 
-  pub encrypt-more : (n i : ℕ) (v b : Bytes) {x y c b' : Bytes} → i < n → 16 * n ≤ length b
+  pub encrypt_more : (n i : ℕ) (v b : Bytes) {x y c b' : Bytes} → i < n → 16 * n ≤ length b
       → x ≡ take 16 (drop (16 * i) b) → y ≡ x xor v → c ≡ ciph y → length c ≡ 16 → b' ≡ put b (16 * i) c
-      → pending (encryptBlocks ciph) n c (i + 1) b' ≡ pending (encryptBlocks ciph) n v i b
+      → pending (encrypt_blocks ciph) n c (i + 1) b' ≡ pending (encrypt_blocks ciph) n v i b
   unfolding next
-  encrypt-more n i v b h k ex ey ec lc eb =
-      pending-more next next (encryptBlocks ciph) none some n i v b h k ex (ec ∙ ap ciph ey) lc (ec ∙ ap ciph ey) eb
+  encrypt_more n i v b h k ex ey ec lc eb =
+      pending_more next next (encrypt_blocks ciph) none some n i v b h k ex (ec ∙ ap ciph ey) lc (ec ∙ ap ciph ey) eb
 
-  pub encrypt-end : (n i : ℕ) (v b : Bytes) → n ≤ i → length b ≤ 16 * i → pending (encryptBlocks ciph) n v i b ≡ b
-  encrypt-end n i v b h k = pending-end next next (encryptBlocks ciph) none some n i v b h k
+  pub encrypt_end : (n i : ℕ) (v b : Bytes) → n ≤ i → length b ≤ 16 * i → pending (encrypt_blocks ciph) n v i b ≡ b
+  encrypt_end n i v b h k = pending_end next next (encrypt_blocks ciph) none some n i v b h k
 
-module _ (invCiph : Bytes → Bytes) where
+module _ (inv_ciph : Bytes → Bytes) where
   plain : Bytes → Bytes → Bytes
-  plain v x = invCiph x xor v
+  plain v x = inv_ciph x xor v
 
   same : Bytes → Bytes → Bytes
   same v x = x
 
-  inv-some : (v x : Bytes) (xs : List Bytes) → decryptBlocks invCiph v (x ∷ xs) ≡ plain v x ∷ decryptBlocks invCiph (same v x) xs
-  unfolding plain same decryptBlocks
-  inv-some v x xs = refl
+  inv_some : (v x : Bytes) (xs : List Bytes) → decrypt_blocks inv_ciph v (x ∷ xs) ≡ plain v x ∷ decrypt_blocks inv_ciph (same v x) xs
+  unfolding plain same decrypt_blocks
+  inv_some v x xs = refl
 
-  inv-none : (v : Bytes) → decryptBlocks invCiph v [] ≡ []
-  unfolding decryptBlocks
-  inv-none v = refl
+  inv_none : (v : Bytes) → decrypt_blocks inv_ciph v [] ≡ []
+  unfolding decrypt_blocks
+  inv_none v = refl
 
-  pub decrypt-start : (iv xs : Bytes) → pending (decryptBlocks invCiph) (length xs / 16) iv 0 xs ≡ cbcDecrypt invCiph iv xs
-  unfolding cbcDecrypt
-  decrypt-start iv xs = pending-start (decryptBlocks invCiph) (length xs / 16) iv xs
+  pub decrypt_start : (iv xs : Bytes) → pending (decrypt_blocks inv_ciph) (length xs / 16) iv 0 xs ≡ cbc_decrypt inv_ciph iv xs
+  unfolding cbc_decrypt
+  decrypt_start iv xs = pending_start (decrypt_blocks inv_ciph) (length xs / 16) iv xs
 
-  pub decrypt-more : (n i : ℕ) (v b : Bytes) {x y p b' : Bytes} → i < n → 16 * n ≤ length b
-      → x ≡ take 16 (drop (16 * i) b) → y ≡ invCiph x → p ≡ y xor v → length p ≡ 16 → b' ≡ put b (16 * i) p
-      → pending (decryptBlocks invCiph) n x (i + 1) b' ≡ pending (decryptBlocks invCiph) n v i b
+  pub decrypt_more : (n i : ℕ) (v b : Bytes) {x y p b' : Bytes} → i < n → 16 * n ≤ length b
+      → x ≡ take 16 (drop (16 * i) b) → y ≡ inv_ciph x → p ≡ y xor v → length p ≡ 16 → b' ≡ put b (16 * i) p
+      → pending (decrypt_blocks inv_ciph) n x (i + 1) b' ≡ pending (decrypt_blocks inv_ciph) n v i b
   unfolding plain same
-  decrypt-more n i v b h k ex ey ep lp eb =
-      pending-more plain same (decryptBlocks invCiph) inv-none inv-some n i v b h k ex (ep ∙ ap (λ (z : Bytes). z xor v) ey) lp refl eb
+  decrypt_more n i v b h k ex ey ep lp eb =
+      pending_more plain same (decrypt_blocks inv_ciph) inv_none inv_some n i v b h k ex (ep ∙ ap (λ (z : Bytes). z xor v) ey) lp refl eb
 
-  pub decrypt-end : (n i : ℕ) (v b : Bytes) → n ≤ i → length b ≤ 16 * i → pending (decryptBlocks invCiph) n v i b ≡ b
-  decrypt-end n i v b h k = pending-end plain same (decryptBlocks invCiph) inv-none inv-some n i v b h k
+  pub decrypt_end : (n i : ℕ) (v b : Bytes) → n ≤ i → length b ≤ 16 * i → pending (decrypt_blocks inv_ciph) n v i b ≡ b
+  decrypt_end n i v b h k = pending_end plain same (decrypt_blocks inv_ciph) inv_none inv_some n i v b h k

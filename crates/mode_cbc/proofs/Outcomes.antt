@@ -5,7 +5,7 @@ use Prim.Native.Nat.{ℕ}
 use native.Mathlib.Omega.{arith}
 use Rattle.octets.specs.Bytes.{Bytes}
 use Rattle.octets.specs.Choice.{if◌then◌else◌}
-use Rattle.mode_cbc.specs.Whole.{whole, outcome, ifWhole}
+use Rattle.mode_cbc.specs.Whole.{whole, outcome, if_whole}
 use Rattle.mode_cbc.specs.declared.Outcome.TheVariants.{Done, PartialBlock}
 
 told : (t : Bool) → (if t then Done else PartialBlock) ≡ Done → t ≡ true
@@ -16,18 +16,18 @@ denied : (t : Bool) → (if t then Done else PartialBlock) ≡ PartialBlock → 
 denied true e = let z : ◌≡◌ {A = ℕ} 0 1 = cc in let n : ⊥ = omega arith in absurd n
 denied false e = refl
 
-pub done-whole : (xs : Bytes) → outcome xs ≡ Done → whole xs ≡ true
+pub done_whole : (xs : Bytes) → outcome xs ≡ Done → whole xs ≡ true
 unfolding outcome
-done-whole xs e = told (whole xs) e
+done_whole xs e = told (whole xs) e
 
-pub partial-not-whole : (xs : Bytes) → outcome xs ≡ PartialBlock → whole xs ≡ false
+pub partial_not_whole : (xs : Bytes) → outcome xs ≡ PartialBlock → whole xs ≡ false
 unfolding outcome
-partial-not-whole xs e = denied (whole xs) e
+partial_not_whole xs e = denied (whole xs) e
 
-pub done-changed : (f : Bytes → Bytes) (xs : Bytes) → outcome xs ≡ Done → ifWhole f xs ≡ f xs
-unfolding ifWhole
-done-changed f xs e = simp (done-whole xs e)
+pub done_changed : (f : Bytes → Bytes) (xs : Bytes) → outcome xs ≡ Done → if_whole f xs ≡ f xs
+unfolding if_whole
+done_changed f xs e = simp (done_whole xs e)
 
-pub partial-kept : (f : Bytes → Bytes) (xs : Bytes) → outcome xs ≡ PartialBlock → ifWhole f xs ≡ xs
-unfolding ifWhole
-partial-kept f xs e = simp (partial-not-whole xs e)
+pub partial_kept : (f : Bytes → Bytes) (xs : Bytes) → outcome xs ≡ PartialBlock → if_whole f xs ≡ xs
+unfolding if_whole
+partial_kept f xs e = simp (partial_not_whole xs e)

@@ -12,5 +12,5 @@ unfoldable pub outcome : Bytes → Outcome
 outcome xs = if whole xs then Done else PartialBlock
 
 -- f of whole blocks, and anything else as it is
-unfoldable pub ifWhole : (Bytes → Bytes) → Bytes → Bytes
-ifWhole f xs = if whole xs then f xs else xs
+unfoldable pub if_whole : (Bytes → Bytes) → Bytes → Bytes
+if_whole f xs = if whole xs then f xs else xs

@@ -2,7 +2,7 @@
 ghost use Rattle.std.specs.Prelude.{◌≡◌, ◌<◌, length};
 ghost use Rattle.aes.specs.Aes.{ciph};
 ghost use Rattle.mode_cmac.specs.Running.{start, flush, add, absorb, finish, Absorbed};
-ghost use Rattle.mode_cmac.specs.Subkeys.{shiftLeft, double, subkey1, subkey2};
+ghost use Rattle.mode_cmac.specs.Subkeys.{shift_left, double, subkey1, subkey2};
 
 use aes::encrypt_block;
 use aes_key_expansion::KeySize;
@@ -12,7 +12,7 @@ const R128: [u8; 16] = [0, 0, 0, 0, 0, 0, 0, 0, 0, 0, 0, 0, 0, 0, 0, 0x87];
 
 // x << 1
 fn shift_left(x: [u8; 16]) -> [u8; 16]
-    ensures { result ≡ shiftLeft x }
+    ensures { result ≡ shift_left x }
 {
     let mut r = [0u8; 16];
     let mut i: usize = 0;

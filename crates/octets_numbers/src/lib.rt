@@ -1,7 +1,7 @@
 // Numbers in two and four bytes, the highest first: read from a buffer, and written into a caller's.
 ghost use Rattle.std.specs.Prelude.{◌≡◌, [], ◌∷◌, ◌+◌, ◌≤◌, length, take, drop};
 ghost use Rattle.octets.specs.Write.{Wrote};
-ghost use Rattle.octets_numbers.specs.BigEndian.{bigEndian, number_in};
+ghost use Rattle.octets_numbers.specs.BigEndian.{big_endian, number_in};
 
 use octets::put_bytes;
 
@@ -43,7 +43,7 @@ pub fn four_byte_number_at(bytes: &[u8], at: usize) -> u32
 // The four bytes of a number at index `at`; the index behind them.
 pub fn put_four_byte_number(out: &mut [u8], at: usize, n: u32) -> usize
     requires { at + 4 ≤ length out.old }
-    ensures { Wrote out.old at (bigEndian 4 n) result out.new }
+    ensures { Wrote out.old at (big_endian 4 n) result out.new }
 {
     let a = n / 256;
     let b = a / 256;

@@ -3,7 +3,7 @@ ghost use Rattle.std.specs.Prelude.{◌≡◌, ◌≤◌, length};
 ghost use Rattle.octets.specs.Bytes.{zeros};
 ghost use Rattle.octets.specs.Write.{over};
 ghost use Rattle.aes_key_expansion.specs.KeyExpansion.{schedule};
-ghost use Rattle.primitives.specs.Calls.{keySize, aesAnswer, aesEncryptBuffer, aesDecryptBuffer, cbcAnswer, cbcEncryptBuffer, cbcDecryptBuffer, cmacAnswer, cmacBuffer};
+ghost use Rattle.primitives.specs.Calls.{key_size, aes_answer, aes_encrypt_buffer, aes_decrypt_buffer, cbc_answer, cbc_encrypt_buffer, cbc_decrypt_buffer, cmac_answer, cmac_buffer};
 
 use aes_key_expansion::KeySize;
 use mode_cbc::Outcome;
@@ -26,7 +26,7 @@ enum Key {
 
 // The size of a key as C hands it in.
 fn key_size(len: usize) -> Key
-    ensures { result ≡ keySize len }
+    ensures { result ≡ key_size len }
 {
     if len == 16 {
         return Key::Of(KeySize::Aes128);
@@ -49,8 +49,8 @@ fn expanded(size: KeySize, key: &[u8]) -> [[u8; 4]; 60]
 
 #[unsafe(no_mangle)]
 pub extern "C" fn pivsm_aes_encrypt(key: &[u8], block: &mut [u8]) -> u32
-    ensures answer { result ≡ aesAnswer key.now block.old }
-    ensures buffer { block.new ≡ aesEncryptBuffer key.now block.old }
+    ensures answer { result ≡ aes_answer key.now block.old }
+    ensures buffer { block.new ≡ aes_encrypt_buffer key.now block.old }
 {
     let Key::Of(size) = key_size(key.len()) else {
         return BAD_KEY_LENGTH;
@@ -66,8 +66,8 @@ pub extern "C" fn pivsm_aes_encrypt(key: &[u8], block: &mut [u8]) -> u32
 
 #[unsafe(no_mangle)]
 pub extern "C" fn pivsm_aes_decrypt(key: &[u8], block: &mut [u8]) -> u32
-    ensures answer { result ≡ aesAnswer key.now block.old }
-    ensures buffer { block.new ≡ aesDecryptBuffer key.now block.old }
+    ensures answer { result ≡ aes_answer key.now block.old }
+    ensures buffer { block.new ≡ aes_decrypt_buffer key.now block.old }
 {
     let Key::Of(size) = key_size(key.len()) else {
         return BAD_KEY_LENGTH;
@@ -83,8 +83,8 @@ pub extern "C" fn pivsm_aes_decrypt(key: &[u8], block: &mut [u8]) -> u32
 
 #[unsafe(no_mangle)]
 pub extern "C" fn pivsm_cbc_encrypt(key: &[u8], iv: &[u8], data: &mut [u8]) -> u32
-    ensures answer { result ≡ cbcAnswer key.now iv.now «data».old }
-    ensures buffer { «data».new ≡ cbcEncryptBuffer key.now iv.now «data».old }
+    ensures answer { result ≡ cbc_answer key.now iv.now «data».old }
+    ensures buffer { «data».new ≡ cbc_encrypt_buffer key.now iv.now «data».old }
 {
     let Key::Of(size) = key_size(key.len()) else {
         return BAD_KEY_LENGTH;
@@ -101,8 +101,8 @@ pub extern "C" fn pivsm_cbc_encrypt(key: &[u8], iv: &[u8], data: &mut [u8]) -> u
 
 #[unsafe(no_mangle)]
 pub extern "C" fn pivsm_cbc_decrypt(key: &[u8], iv: &[u8], data: &mut [u8]) -> u32
-    ensures answer { result ≡ cbcAnswer key.now iv.now «data».old }
-    ensures buffer { «data».new ≡ cbcDecryptBuffer key.now iv.now «data».old }
+    ensures answer { result ≡ cbc_answer key.now iv.now «data».old }
+    ensures buffer { «data».new ≡ cbc_decrypt_buffer key.now iv.now «data».old }
 {
     let Key::Of(size) = key_size(key.len()) else {
         return BAD_KEY_LENGTH;
@@ -120,8 +120,8 @@ pub extern "C" fn pivsm_cbc_decrypt(key: &[u8], iv: &[u8], data: &mut [u8]) -> u
 // The MAC of head followed by rest.
 #[unsafe(no_mangle)]
 pub extern "C" fn pivsm_cmac(key: &[u8], head: &[u8], rest: &[u8], mac: &mut [u8]) -> u32
-    ensures answer { result ≡ cmacAnswer key.now mac.old }
-    ensures buffer { mac.new ≡ cmacBuffer key.now head.now rest.now mac.old }
+    ensures answer { result ≡ cmac_answer key.now mac.old }
+    ensures buffer { mac.new ≡ cmac_buffer key.now head.now rest.now mac.old }
 {
     let Key::Of(size) = key_size(key.len()) else {
         return BAD_KEY_LENGTH;

@@ -5,8 +5,8 @@ use Rattle.refusal.specs.declared.Refusal.TheVariants.{SessionClosed, OutOfTurn,
 use Rattle.refusal.specs.declared.Told.{Told}
 use Rattle.refusal.specs.declared.Told.TheVariants.{Number, Size, Status}
 
-abbrev pub statusWord : ℕ → ℕ → ℕ
-statusWord sw1 sw2 = sw1 * 256 + sw2
+abbrev pub status_word : ℕ → ℕ → ℕ
+status_word sw1 sw2 = sw1 * 256 + sw2
 
 -- the table's rows: a number alone, but for the size needed at 6 and the status word, unverified, at 13
 abbrev pub tells : Refusal → Told
@@ -27,31 +27,31 @@ tells BrokenChain = Number 14
 tells FragmentTooLong = Number 15
 tells BadSession = Number 16
 
-abbrev pub numberTold : Told → ℕ
-numberTold (Number n) = n
-numberTold (Size n) = 6
-numberTold (Status sw1 sw2) = 13
+abbrev pub number_told : Told → ℕ
+number_told (Number n) = n
+number_told (Size n) = 6
+number_told (Status sw1 sw2) = 13
 
-abbrev pub sizeTold : Told → ℕ
-sizeTold (Number n) = 0
-sizeTold (Size n) = n
-sizeTold (Status sw1 sw2) = 0
+abbrev pub size_told : Told → ℕ
+size_told (Number n) = 0
+size_told (Size n) = n
+size_told (Status sw1 sw2) = 0
 
-abbrev pub statusTold : Told → ℕ
-statusTold (Number n) = 0
-statusTold (Size n) = 0
-statusTold (Status sw1 sw2) = statusWord sw1 sw2
+abbrev pub status_told : Told → ℕ
+status_told (Number n) = 0
+status_told (Size n) = 0
+status_told (Status sw1 sw2) = status_word sw1 sw2
 
 abbrev pub number : Refusal → ℕ
-number r = numberTold (tells r)
+number r = number_told (tells r)
 
 -- the size needed, at 6; 0 at all others
 abbrev pub size : Refusal → ℕ
-size r = sizeTold (tells r)
+size r = size_told (tells r)
 
 -- the status word, unverified, at 13; 0 at all others
 abbrev pub status : Refusal → ℕ
-status r = statusTold (tells r)
+status r = status_told (tells r)
 
 -- the table's column "Extra": a size or a status word
 abbrev pub extra : Refusal → ℕ

@@ -1,6 +1,6 @@
 // The refusals of document 01's table "The numbered answers", one for each number.
 ghost use Rattle.std.specs.Prelude.{◌≡◌};
-ghost use Rattle.refusal.specs.Refusal.{statusWord, tells, numberTold, sizeTold, statusTold, number, size, status};
+ghost use Rattle.refusal.specs.Refusal.{status_word, tells, number_told, size_told, status_told, number, size, status};
 
 #[derive(Drop)]
 pub enum Refusal {
@@ -40,14 +40,14 @@ fn wide(b: u8) -> u16
 
 // SW1 is the high byte.
 pub fn status_word(sw1: u8, sw2: u8) -> u16
-    ensures { result ≡ statusWord sw1 sw2 }
+    ensures { result ≡ status_word sw1 sw2 }
 {
     wide(sw1) * 256 + wide(sw2)
 }
 
 impl Told {
     fn number(self) -> u32
-        ensures { result ≡ numberTold self }
+        ensures { result ≡ number_told self }
     {
         match self {
             Told::Number(n) => n,
@@ -57,7 +57,7 @@ impl Told {
     }
 
     fn size(self) -> usize
-        ensures { result ≡ sizeTold self }
+        ensures { result ≡ size_told self }
     {
         match self {
             Told::Number(_) => 0,
@@ -67,7 +67,7 @@ impl Told {
     }
 
     fn status(self) -> u16
-        ensures { result ≡ statusTold self }
+        ensures { result ≡ status_told self }
     {
         match self {
             Told::Number(_) => 0,

@@ -22,8 +22,8 @@ fresh side suite enc mac rmac =
     }
 
 -- closed: keys, count and chaining values zero
-abbrev pub closedAt : Side → Suite → Session
-closedAt side suite =
+abbrev pub closed_at : Side → Suite → Session
+closed_at side suite =
     record {
       phase = Closed;
       count = 0;
@@ -38,8 +38,8 @@ closedAt side suite =
 
 -- side and suite stay
 abbrev pub closed : Session → Session
-closed s = closedAt s.side s.suite
+closed s = closed_at s.side s.suite
 
 -- what stands where there is no session, at 11, 12 and 16
-abbrev pub noSession : Side → Session
-noSession side = closedAt side Cs2
+abbrev pub no_session : Side → Session
+no_session side = closed_at side Cs2

@@ -1,8 +1,8 @@
 // The session of secure messaging: a value that each call takes and gives back (rules 3.1 to 3.4).
 ghost use Rattle.std.specs.Prelude.{◌≡◌};
 ghost use Rattle.session_suite.specs.StoredKeys.{KeysOfBytes, keys};
-ghost use Rattle.session.specs.Session.{fresh, closed, closedAt, noSession};
-ghost use Rattle.session.specs.Opening.{notOpened, openSuite, opening};
+ghost use Rattle.session.specs.Session.{fresh, closed, closed_at, no_session};
+ghost use Rattle.session.specs.Opening.{not_opened, open_suite, opening};
 
 use refusal::Refusal;
 use session_suite::{Suite, SuiteNumber, keys_fit, stored, suite_of};
@@ -82,7 +82,7 @@ impl Session {
 
     // Nothing is left but side and suite.
     pub fn closed_at(side: Side, suite: Suite) -> Session
-        ensures { result ≡ closedAt side suite }
+        ensures { result ≡ closed_at side suite }
     {
         Session {
             side,
@@ -99,7 +99,7 @@ impl Session {
 
     // What stands where there is no session.
     pub fn none(side: Side) -> Session
-        ensures { result ≡ noSession side }
+        ensures { result ≡ no_session side }
     {
         Session::closed_at(side, Suite::Cs2)
     }
@@ -131,7 +131,7 @@ impl Session {
 }
 
 fn not_opened(side: Side, refusal: Refusal) -> Opened
-    ensures { result ≡ notOpened side refusal }
+    ensures { result ≡ not_opened side refusal }
 {
     let session = Session::none(side);
     Opened {
@@ -141,7 +141,7 @@ fn not_opened(side: Side, refusal: Refusal) -> Opened
 }
 
 fn open_suite(side: Side, suite: Suite, enc: &[u8], mac: &[u8], rmac: &[u8]) -> Opened
-    ensures { result ≡ openSuite side (SuiteNumber.Known suite) (keys enc.now mac.now rmac.now) }
+    ensures { result ≡ open_suite side (SuiteNumber.Known suite) (keys enc.now mac.now rmac.now) }
 {
     let n = suite.key_length();
     if keys_fit(n, enc, mac, rmac) {

@@ -9,9 +9,9 @@ use lib.Dec.{leb}
 use lib.ListN.{length, length-append}
 use lib.Seq.{take_at, drop_at}
 use Rattle.octets.specs.Bytes.{Bytes}
-use Rattle.octets_numbers.specs.BigEndian.{bigEndian, numberFrom, number_in}
-use Rattle.octets_numbers.proofs.BigEndian.{number-big-endian}
-use Rattle.session_suite.specs.Suites.{number, suiteOf}
+use Rattle.octets_numbers.specs.BigEndian.{big_endian, number_from, number_in}
+use Rattle.octets_numbers.proofs.BigEndian.{number_big_endian}
+use Rattle.session_suite.specs.Suites.{number, suite_of}
 use Rattle.session.specs.Arrays.{Arrays}
 use Rattle.session.specs.declared.Side.{Side}
 use Rattle.session.specs.declared.Side.TheVariants.{Host, Card}
@@ -22,33 +22,33 @@ use Rattle.session_suite.specs.declared.Suite.TheVariants.{Cs2, Cs7}
 use Rattle.session_suite.specs.declared.SuiteNumber.TheVariants.{Known}
 use Rattle.session.specs.declared.Session.{Session}
 use Rattle.session_rules.specs.Valid.{valid}
-use Rattle.session_rules.proofs.KeepsTheRules.{valid-count}
-use Rattle.session_bytes.specs.Saved.{sessionSize, sideNumber, phaseNumber, header, keys, mcvs, encode, headed, sideFrom, phaseFrom, countFrom, part, sessionFrom, decodedTo, accepted, decodeSuite, decode}
-use Rattle.session_bytes.proofs.SavedParts.{length-header, length-keys, length-encode}
+use Rattle.session_rules.proofs.KeepsTheRules.{valid_count}
+use Rattle.session_bytes.specs.Saved.{session_size, side_number, phase_number, header, keys, mcvs, encode, headed, side_from, phase_from, count_from, part, session_from, decoded_to, accepted, decode_suite, decode}
+use Rattle.session_bytes.proofs.SavedParts.{length_header, length_keys, length_encode}
 
 -- ---- numbers
 
-side-back : (side : Side) → sideFrom (sideNumber side) ≡ side
-side-back Host = refl
-side-back Card = refl
+side_back : (side : Side) → side_from (side_number side) ≡ side
+side_back Host = refl
+side_back Card = refl
 
-phase-back : (phase : Phase) → phaseFrom (phaseNumber phase) ≡ phase
-phase-back Ready = refl
-phase-back Pending = refl
-phase-back Closed = refl
+phase_back : (phase : Phase) → phase_from (phase_number phase) ≡ phase
+phase_back Ready = refl
+phase_back Pending = refl
+phase_back Closed = refl
 
-suite-back : (suite : Suite) → suiteOf (number suite) ≡ Known suite
-suite-back Cs2 = refl
-suite-back Cs7 = refl
+suite_back : (suite : Suite) → suite_of (number suite) ≡ Known suite
+suite_back Cs2 = refl
+suite_back Cs7 = refl
 
-side-known : (side : Side) → leb (sideNumber side) 1 ≡ true
-side-known Host = refl
-side-known Card = refl
+side_known : (side : Side) → leb (side_number side) 1 ≡ true
+side_known Host = refl
+side_known Card = refl
 
-phase-known : (phase : Phase) → leb (phaseNumber phase) 2 ≡ true
-phase-known Ready = refl
-phase-known Pending = refl
-phase-known Closed = refl
+phase_known : (phase : Phase) → leb (phase_number phase) 2 ≡ true
+phase_known Ready = refl
+phase_known Pending = refl
+phase_known Closed = refl
 
 -- ---- parts
 
@@ -72,68 +72,68 @@ module _ (s : Session) (a : Arrays s) where
   abbrev response : Bytes
   response = s.response_mcv
 
-  whole : length (encode s) ≡ sessionSize
-  whole = length-encode s a.enc.size a.mac.size a.rmac.size a.command.size a.response.size
+  whole : length (encode s) ≡ session_size
+  whole = length_encode s a.enc.size a.mac.size a.rmac.size a.command.size a.response.size
 
-  enc-back : part (encode s) 10 32 ≡ enc
+  enc_back : part (encode s) 10 32 ≡ enc
   unfolding encode keys mcvs
-  enc-back =
+  enc_back =
       let e : encode s ≡ header s ++ (enc ++ (mac ++ (rmac ++ (command ++ response)))) = simp append_assoc in
       ap (λ (l : Bytes). part l 10 32) e
-      ∙ between (header s) enc (mac ++ (rmac ++ (command ++ response))) 10 32 (length-header s) a.enc.size
+      ∙ between (header s) enc (mac ++ (rmac ++ (command ++ response))) 10 32 (length_header s) a.enc.size
 
-  mac-back : part (encode s) 42 32 ≡ mac
+  mac_back : part (encode s) 42 32 ≡ mac
   unfolding encode keys mcvs
-  mac-back =
+  mac_back =
       let e : encode s ≡ (header s ++ enc) ++ (mac ++ (rmac ++ (command ++ response))) = simp append_assoc in
-      let l : length (header s ++ enc) ≡ 42 = simp length-append (omega (arith, length-header s, a.enc.size)) in
+      let l : length (header s ++ enc) ≡ 42 = simp length-append (omega (arith, length_header s, a.enc.size)) in
       ap (λ (l : Bytes). part l 42 32) e ∙ between (header s ++ enc) mac (rmac ++ (command ++ response)) 42 32 l a.mac.size
 
-  rmac-back : part (encode s) 74 32 ≡ rmac
+  rmac_back : part (encode s) 74 32 ≡ rmac
   unfolding encode keys mcvs
-  rmac-back =
+  rmac_back =
       let e : encode s ≡ (header s ++ enc ++ mac) ++ (rmac ++ (command ++ response)) = simp append_assoc in
-      let l : length (header s ++ enc ++ mac) ≡ 74 = simp length-append (omega (arith, length-header s, a.enc.size, a.mac.size)) in
+      let l : length (header s ++ enc ++ mac) ≡ 74 = simp length-append (omega (arith, length_header s, a.enc.size, a.mac.size)) in
       ap (λ (l : Bytes). part l 74 32) e ∙ between (header s ++ enc ++ mac) rmac (command ++ response) 74 32 l a.rmac.size
 
-  command-back : part (encode s) 106 16 ≡ command
+  command_back : part (encode s) 106 16 ≡ command
   unfolding encode mcvs
-  command-back =
-      let k = length-keys s a.enc.size a.mac.size a.rmac.size in
-      let l : length (header s ++ keys s) ≡ 106 = simp length-append (omega (arith, length-header s, k)) in
+  command_back =
+      let k = length_keys s a.enc.size a.mac.size a.rmac.size in
+      let l : length (header s ++ keys s) ≡ 106 = simp length-append (omega (arith, length_header s, k)) in
       between (header s ++ keys s) command response 106 16 l a.command.size
 
-  response-back : part (encode s) 122 16 ≡ response
+  response_back : part (encode s) 122 16 ≡ response
   unfolding encode mcvs
-  response-back =
-      let k = length-keys s a.enc.size a.mac.size a.rmac.size in
+  response_back =
+      let k = length_keys s a.enc.size a.mac.size a.rmac.size in
       let e : encode s ≡ (header s ++ keys s ++ command) ++ (response ++ []) = simp (append_assoc, append-nil) in
-      let l : length (header s ++ keys s ++ command) ≡ 122 = simp length-append (omega (arith, length-header s, k, a.command.size)) in
+      let l : length (header s ++ keys s ++ command) ≡ 122 = simp length-append (omega (arith, length_header s, k, a.command.size)) in
       ap (λ (l : Bytes). part l 122 16) e ∙ between (header s ++ keys s ++ command) response [] 122 16 l a.response.size
 
-  count-back : s.count ≤ 65535 → countFrom (encode s) ≡ s.count
-  unfolding encode header bigEndian
-  count-back h = number-big-endian 4 s.count (omega arith)
+  count_back : s.count ≤ 65535 → count_from (encode s) ≡ s.count
+  unfolding encode header big_endian
+  count_back h = number_big_endian 4 s.count (omega arith)
 
-  session-back : s.count ≤ 65535 → sessionFrom (encode s) s.suite ≡ s
-  unfolding sessionFrom encode header bigEndian
-  session-back h =
+  session_back : s.count ≤ 65535 → session_from (encode s) s.suite ≡ s
+  unfolding session_from encode header big_endian
+  session_back h =
       λ i. record {
-        side = side-back s.side i;
-        phase = phase-back s.phase i;
+        side = side_back s.side i;
+        phase = phase_back s.phase i;
         suite = s.suite;
-        count = count-back h i;
-        sk_enc = enc-back i;
-        sk_mac = mac-back i;
-        sk_rmac = rmac-back i;
-        command_mcv = command-back i;
-        response_mcv = response-back i;
+        count = count_back h i;
+        sk_enc = enc_back i;
+        sk_mac = mac_back i;
+        sk_rmac = rmac_back i;
+        command_mcv = command_back i;
+        response_mcv = response_back i;
       }
 
-  headed-back : headed (encode s) ≡ true
-  unfolding headed encode header bigEndian number_in numberFrom
-  headed-back = rw (eq-eqb _ _ whole, side-known s.side, phase-known s.phase)
+  headed_back : headed (encode s) ≡ true
+  unfolding headed encode header big_endian number_in number_from
+  headed_back = rw (eq-eqb _ _ whole, side_known s.side, phase_known s.phase)
 
-  pub decode-encode : valid s ≡ true → decode (encode s) ≡ decodedTo s
-  unfolding decode decodeSuite accepted encode header bigEndian
-  decode-encode h = rw (headed-back, suite-back s.suite, session-back (valid-count s h), h)
+  pub decode_encode : valid s ≡ true → decode (encode s) ≡ decoded_to s
+  unfolding decode decode_suite accepted encode header big_endian
+  decode_encode h = rw (headed_back, suite_back s.suite, session_back (valid_count s h), h)

@@ -12,9 +12,9 @@ use lib.Seq.{length-take-le, drop-cons, drop-drop, get_or-take, get_or-drop, tak
 use Rattle.octets.specs.Bytes.{Bytes, IsBytes}
 use Rattle.octets.specs.Choice.{if◌then◌else◌}
 use Rattle.octets.proofs.ByteStrings.{byte_at}
-use Rattle.octets_numbers.specs.BigEndian.{bigEndian, number_in}
-use Rattle.octets_numbers.proofs.BigEndian.{big-endian-number}
-use Rattle.session_suite.specs.Suites.{number, suiteOf}
+use Rattle.octets_numbers.specs.BigEndian.{big_endian, number_in}
+use Rattle.octets_numbers.proofs.BigEndian.{big_endian_number}
+use Rattle.session_suite.specs.Suites.{number, suite_of}
 use Rattle.session.specs.Arrays.{Block, Arrays}
 use Rattle.session_suite.specs.declared.Suite.{Suite}
 use Rattle.session_suite.specs.declared.Suite.TheVariants.{Cs2, Cs7}
@@ -22,74 +22,74 @@ use Rattle.session_suite.specs.declared.SuiteNumber.{SuiteNumber}
 use Rattle.session_suite.specs.declared.SuiteNumber.TheVariants.{Known, Unknown}
 use Rattle.session.specs.declared.Session.{Session}
 use Rattle.session_rules.specs.Valid.{valid}
-use Rattle.session_bytes.specs.Saved.{sessionSize, sideNumber, phaseNumber, header, keys, mcvs, encode, headed, sideFrom, phaseFrom, part, sessionFrom, accepted, decodeSuite, decode}
+use Rattle.session_bytes.specs.Saved.{session_size, side_number, phase_number, header, keys, mcvs, encode, headed, side_from, phase_from, part, session_from, accepted, decode_suite, decode}
 use Rattle.session_bytes.specs.declared.Decoding.TheVariants.{Decoded as Done}
 use Rattle.session_bytes.specs.declared.Decoded.{Decoded}
-use Rattle.session_bytes.proofs.SavedParts.{Headed, headed-right}
-use Rattle.session_bytes.proofs.DecodeEncode.{decode-encode}
+use Rattle.session_bytes.proofs.SavedParts.{Headed, headed_right}
+use Rattle.session_bytes.proofs.DecodeEncode.{decode_encode}
 
 -- ---- what was decoded
 
 pub record Read (b : Bytes) : Type 0 where
   pub suite : Suite
   pub first : Headed b
-  pub known : suiteOf (get_or b 5 0) ≡ Known suite
-  pub keeps : valid (sessionFrom b suite) ≡ true
-  pub session : (decode b).session ≡ sessionFrom b suite
+  pub known : suite_of (get_or b 5 0) ≡ Known suite
+  pub keeps : valid (session_from b suite) ≡ true
+  pub session : (decode b).session ≡ session_from b suite
 
-pub decoded-read : (b : Bytes) → (decode b).answer ≡ Done → Read b
-unfolding decode decodeSuite accepted
-decoded-read b = at-header (headed b) refl
+pub decoded_read : (b : Bytes) → (decode b).answer ≡ Done → Read b
+unfolding decode decode_suite accepted
+decoded_read b = at_header (headed b) refl
   where
     never : {A : Type 0} → ◌≡◌ {A = ℕ} 0 1 → A
     never z = let o : ⊥ = omega arith in absurd o
 
-    at-rules : (suite : Suite) (keeps : Bool) → headed b ≡ true → suiteOf (get_or b 5 0) ≡ Known suite
-        → valid (sessionFrom b suite) ≡ keeps → (decode b).answer ≡ Done → Read b
-    at-rules suite true h k v e =
-        record { suite = suite; first = headed-right b h; known = k; keeps = v; session = rw (h, k, v) }
-    at-rules suite false h k v e = let g = rw (h, k, v) at e in never (cc)
+    at_rules : (suite : Suite) (keeps : Bool) → headed b ≡ true → suite_of (get_or b 5 0) ≡ Known suite
+        → valid (session_from b suite) ≡ keeps → (decode b).answer ≡ Done → Read b
+    at_rules suite true h k v e =
+        record { suite = suite; first = headed_right b h; known = k; keeps = v; session = rw (h, k, v) }
+    at_rules suite false h k v e = let g = rw (h, k, v) at e in never (cc)
 
-    at-suite : (known : SuiteNumber) → headed b ≡ true → suiteOf (get_or b 5 0) ≡ known → (decode b).answer ≡ Done → Read b
-    at-suite (Known suite) h k e = at-rules suite (valid (sessionFrom b suite)) h k refl e
-    at-suite Unknown h k e = let g = rw (h, k) at e in never (cc)
+    at_suite : (known : SuiteNumber) → headed b ≡ true → suite_of (get_or b 5 0) ≡ known → (decode b).answer ≡ Done → Read b
+    at_suite (Known suite) h k e = at_rules suite (valid (session_from b suite)) h k refl e
+    at_suite Unknown h k e = let g = rw (h, k) at e in never (cc)
 
-    at-header : (right : Bool) → headed b ≡ right → (decode b).answer ≡ Done → Read b
-    at-header true h e = at-suite (suiteOf (get_or b 5 0)) h refl e
-    at-header false h e = let g = rw h at e in never (cc)
+    at_header : (right : Bool) → headed b ≡ right → (decode b).answer ≡ Done → Read b
+    at_header true h e = at_suite (suite_of (get_or b 5 0)) h refl e
+    at_header false h e = let g = rw h at e in never (cc)
 
 -- ---- numbers
 
-side-number : (n : ℕ) → n ≤ 1 → sideNumber (sideFrom n) ≡ n
-side-number zero h = refl
-side-number (suc zero) h = refl
-side-number (suc (suc n)) h = let z : ⊥ = omega arith in absurd z
+side_number_lem : (n : ℕ) → n ≤ 1 → side_number (side_from n) ≡ n
+side_number_lem zero h = refl
+side_number_lem (suc zero) h = refl
+side_number_lem (suc (suc n)) h = let z : ⊥ = omega arith in absurd z
 
-phase-number : (n : ℕ) → n ≤ 2 → phaseNumber (phaseFrom n) ≡ n
-phase-number zero h = refl
-phase-number (suc zero) h = refl
-phase-number (suc (suc zero)) h = refl
-phase-number (suc (suc (suc n))) h = let z : ⊥ = omega arith in absurd z
+phase_number_lem : (n : ℕ) → n ≤ 2 → phase_number (phase_from n) ≡ n
+phase_number_lem zero h = refl
+phase_number_lem (suc zero) h = refl
+phase_number_lem (suc (suc zero)) h = refl
+phase_number_lem (suc (suc (suc n))) h = let z : ⊥ = omega arith in absurd z
 
-suite-number : (n : ℕ) (suite : Suite) → suiteOf n ≡ Known suite → number suite ≡ n
-suite-number n suite = at-2 (eqb n 2) refl
+suite_number : (n : ℕ) (suite : Suite) → suite_of n ≡ Known suite → number suite ≡ n
+suite_number n suite = at_2 (eqb n 2) refl
   where
     at_7 : (t : Bool) → eqb n 7 ≡ t → (if t then Known Cs7 else Unknown) ≡ Known suite → number suite ≡ n
     at_7 true e k = let s : Cs7 ≡ suite = cc in sym (ap number s) ∙ sym (eqb-true n 7 e)
     at_7 false e k = let z : ◌≡◌ {A = ℕ} 0 1 = cc in let o : ⊥ = omega arith in absurd o
 
-    at-2 : (t : Bool) → eqb n 2 ≡ t → (if t then Known Cs2 else if eqb n 7 then Known Cs7 else Unknown) ≡ Known suite
+    at_2 : (t : Bool) → eqb n 2 ≡ t → (if t then Known Cs2 else if eqb n 7 then Known Cs7 else Unknown) ≡ Known suite
         → number suite ≡ n
-    at-2 true e k = let s : Cs2 ≡ suite = cc in sym (ap number s) ∙ sym (eqb-true n 2 e)
-    at-2 false e k = at_7 (eqb n 7) refl k
+    at_2 true e k = let s : Cs2 ≡ suite = cc in sym (ap number s) ∙ sym (eqb-true n 2 e)
+    at_2 false e k = at_7 (eqb n 7) refl k
 
 -- ---- parts
 
 split : (b : Bytes) (at n : ℕ) → drop at b ≡ part b at n ++ drop (at + n) b
 split b at n = sym (take-append-drop n (drop at b)) ∙ ap (λ (l : Bytes). part b at n ++ l) (drop-drop n at b)
 
-part-block : (b : Bytes) (at n : ℕ) → IsBytes b → at + n ≤ length b → Block n (part b at n)
-part-block b at n h l =
+part_block : (b : Bytes) (at n : ℕ) → IsBytes b → at + n ≤ length b → Block n (part b at n)
+part_block b at n h l =
     let size : length (part b at n) ≡ n = length-take-le n (drop at b) (simp length-drop (omega arith)) in
     record {
       size = size;
@@ -99,69 +99,69 @@ part-block b at n h l =
     }
 
 -- the number in a part has the part's bytes
-number-part : (b : Bytes) (at n : ℕ) → IsBytes b → at + n ≤ length b → bigEndian n (number_in (part b at n)) ≡ part b at n
-number-part b at n h l =
-    let p = part-block b at n h l in
-    ap (λ (k : ℕ). bigEndian k (number_in (part b at n))) (sym p.size) ∙ big-endian-number (part b at n) p.bytes
+number_part : (b : Bytes) (at n : ℕ) → IsBytes b → at + n ≤ length b → big_endian n (number_in (part b at n)) ≡ part b at n
+number_part b at n h l =
+    let p = part_block b at n h l in
+    ap (λ (k : ℕ). big_endian k (number_in (part b at n))) (sym p.size) ∙ big_endian_number (part b at n) p.bytes
 
 module _ (b : Bytes) (h : IsBytes b) (r : Read b) where
   abbrev s : Session
-  s = sessionFrom b r.suite
+  s = session_from b r.suite
 
-  read-arrays : Arrays s
-  unfolding sessionFrom
-  read-arrays =
+  read_arrays : Arrays s
+  unfolding session_from
+  read_arrays =
       let size = r.first.size in
       record {
-        enc = part-block b 10 32 h (omega arith);
-        mac = part-block b 42 32 h (omega arith);
-        rmac = part-block b 74 32 h (omega arith);
-        command = part-block b 106 16 h (omega arith);
-        response = part-block b 122 16 h (omega arith);
+        enc = part_block b 10 32 h (omega arith);
+        mac = part_block b 42 32 h (omega arith);
+        rmac = part_block b 74 32 h (omega arith);
+        command = part_block b 106 16 h (omega arith);
+        response = part_block b 122 16 h (omega arith);
       }
 
-  header-same : b ≡ header s ++ drop 10 b
-  unfolding sessionFrom header
-  header-same =
+  header_same : b ≡ header s ++ drop 10 b
+  unfolding session_from header
+  header_same =
       let size = r.first.size in
       split b 0 2
-      ∙ ap₂ ◌++◌ (sym (number-part b 0 2 h (omega arith)) ∙ ap (bigEndian 2) r.first.rest)
+      ∙ ap₂ ◌++◌ (sym (number_part b 0 2 h (omega arith)) ∙ ap (big_endian 2) r.first.rest)
       (cons 2 r.first.version (omega arith)
-      (cons 3 (sym (side-number (get_or b 3 0) r.first.side)) (omega arith)
-      (cons 4 (sym (phase-number (get_or b 4 0) r.first.phase)) (omega arith)
-      (cons 5 (sym (suite-number (get_or b 5 0) r.suite r.known)) (omega arith)
-      (split b 6 4 ∙ ap (λ (l : Bytes). l ++ drop 10 b) (sym (number-part b 6 4 h (omega arith))))))))
-      ∙ sym (append_assoc (bigEndian 2 (sessionSize - 2)) _ (drop 10 b))
+      (cons 3 (sym (side_number_lem (get_or b 3 0) r.first.side)) (omega arith)
+      (cons 4 (sym (phase_number_lem (get_or b 4 0) r.first.phase)) (omega arith)
+      (cons 5 (sym (suite_number (get_or b 5 0) r.suite r.known)) (omega arith)
+      (split b 6 4 ∙ ap (λ (l : Bytes). l ++ drop 10 b) (sym (number_part b 6 4 h (omega arith))))))))
+      ∙ sym (append_assoc (big_endian 2 (session_size - 2)) _ (drop 10 b))
     where
       cons : (i : ℕ) {x : ℕ} {rest : Bytes} → get_or b i 0 ≡ x → i < length b → drop (suc i) b ≡ rest → drop i b ≡ x ∷ rest
       cons i e l t = drop-cons b i 0 l ∙ ap₂ (λ (y : ℕ) (ys : Bytes). y ∷ ys) e t
 
-  session-same : encode s ≡ b
-  unfolding sessionFrom encode keys mcvs
-  session-same =
+  session_same : encode s ≡ b
+  unfolding session_from encode keys mcvs
+  session_same =
       let size = r.first.size in
       let last : part b 122 16 ≡ drop 122 b = take_all 16 (drop 122 b) (simp length-drop (omega arith)) in
-      sym (header-same ∙ ap (λ (l : Bytes). header s ++ l) (split b 10 32 ∙ ap (λ (l : Bytes). part b 10 32 ++ l) (split b 42 32
+      sym (header_same ∙ ap (λ (l : Bytes). header s ++ l) (split b 10 32 ∙ ap (λ (l : Bytes). part b 10 32 ++ l) (split b 42 32
       ∙ ap (λ (l : Bytes). part b 42 32 ++ l) (split b 74 32 ∙ ap (λ (l : Bytes). part b 74 32 ++ l) (split b 106 16
       ∙ ap (λ (l : Bytes). part b 106 16 ++ l) (sym last)))))
       ∙ simp append_assoc)
 
 -- ---- the laws
 
-pub encode-decode : (b : Bytes) → IsBytes b → (decode b).answer ≡ Done → encode (decode b).session ≡ b
-encode-decode b h e = let r = decoded-read b e in ap encode r.session ∙ session-same b h r
+pub encode_decode : (b : Bytes) → IsBytes b → (decode b).answer ≡ Done → encode (decode b).session ≡ b
+encode_decode b h e = let r = decoded_read b e in ap encode r.session ∙ session_same b h r
 
 -- what is decoded keeps the rules, and its arrays have their lengths
-pub decoded-valid : (b : Bytes) → (decode b).answer ≡ Done → valid (decode b).session ≡ true
-decoded-valid b e = let r = decoded-read b e in ap valid r.session ∙ r.keeps
+pub decoded_valid : (b : Bytes) → (decode b).answer ≡ Done → valid (decode b).session ≡ true
+decoded_valid b e = let r = decoded_read b e in ap valid r.session ∙ r.keeps
 
-pub decoded-arrays : (b : Bytes) → IsBytes b → (decode b).answer ≡ Done → Arrays (decode b).session
-decoded-arrays b h e = let r = decoded-read b e in subst Arrays (sym r.session) (read-arrays b h r)
+pub decoded_arrays : (b : Bytes) → IsBytes b → (decode b).answer ≡ Done → Arrays (decode b).session
+decoded_arrays b h e = let r = decoded_read b e in subst Arrays (sym r.session) (read_arrays b h r)
 
 -- exactly these bytes are decoded
-pub decoded-exactly : (b : Bytes) → IsBytes b
+pub decoded_exactly : (b : Bytes) → IsBytes b
     → ((decode b).answer ≡ Done) ↔ ((s : Session) × (valid s ≡ true) × Arrays s × (b ≡ encode s))
-decoded-exactly b h = (
-  λ e. ((decode b).session, decoded-valid b e, decoded-arrays b h e, sym (encode-decode b h e)),
-  λ w. ap (λ (l : Bytes). (decode l).answer) w.3 ∙ ap (λ (d : Decoded). d.answer) (decode-encode w.0 w.2 w.1),
+decoded_exactly b h = (
+  λ e. ((decode b).session, decoded_valid b e, decoded_arrays b h e, sym (encode_decode b h e)),
+  λ w. ap (λ (l : Bytes). (decode l).answer) w.3 ∙ ap (λ (d : Decoded). d.answer) (decode_encode w.0 w.2 w.1),
 )

@@ -5,14 +5,14 @@ use Prim.Native.Nat.{◌-◌}
 use Rattle.octets.specs.Bytes.{zeros}
 use Rattle.refusal.specs.declared.Refusal.TheVariants.{SessionClosed, BufferTooSmall}
 use Rattle.session_suite.specs.declared.Suite.TheVariants.{Cs2, Cs7}
-use Rattle.session.specs.Session.{closedAt, fresh}
+use Rattle.session.specs.Session.{closed_at, fresh}
 use Rattle.session.specs.declared.Side.TheVariants.{Host, Card}
 use Rattle.session.specs.declared.Phase.TheVariants.{Pending}
 use Rattle.session.specs.declared.Session.{Session}
-use Rattle.session_rules.specs.Valid.{keepsPhase, valid}
-use Rattle.session_rules.specs.ZeroBytes.{allZero, keysEnd, keysZero, mcvsZero}
-use Rattle.session_bytes.specs.Saved.{sessionSize}
-use Rattle.session_bytes.specs.Answered.{answered, savingAnswered}
+use Rattle.session_rules.specs.Valid.{keeps_phase, valid}
+use Rattle.session_rules.specs.ZeroBytes.{all_zero, keys_end, keys_zero, mcvs_zero}
+use Rattle.session_bytes.specs.Saved.{session_size}
+use Rattle.session_bytes.specs.Answered.{answered, saving_answered}
 use Rattle.session_bytes.specs.Saving.{encoding}
 use Rattle.session_bytes.specs.declared.Encoding.TheVariants.{Encoded, Refused}
 
@@ -35,25 +35,25 @@ new : Session
 new = fresh Host Cs2 (zeros 32) (zeros 32) (zeros 32)
 
 -- 1 comes before 6
-broken-without-room : encoding broken 0 ≡ Refused SessionClosed
-unfolding encoding valid keepsPhase keysEnd allZero broken
-broken-without-room = refl
+broken_without_room : encoding broken 0 ≡ Refused SessionClosed
+unfolding encoding valid keeps_phase keys_end all_zero broken
+broken_without_room = refl
 
-room-one-byte-short : encoding new (sessionSize - 1) ≡ Refused (BufferTooSmall sessionSize)
-unfolding encoding valid keepsPhase keysEnd mcvsZero allZero new
-room-one-byte-short = refl
+room_one_byte_short : encoding new (session_size - 1) ≡ Refused (BufferTooSmall session_size)
+unfolding encoding valid keeps_phase keys_end mcvs_zero all_zero new
+room_one_byte_short = refl
 
-room-enough : encoding new sessionSize ≡ Encoded
-unfolding encoding valid keepsPhase keysEnd mcvsZero allZero new
-room-enough = refl
+room_enough : encoding new session_size ≡ Encoded
+unfolding encoding valid keeps_phase keys_end mcvs_zero all_zero new
+room_enough = refl
 
 -- 1 is only for a session that breaks the rules
-closed : encoding (closedAt Card Cs7) sessionSize ≡ Encoded
-unfolding encoding valid keepsPhase keysZero mcvsZero allZero
+closed : encoding (closed_at Card Cs7) session_size ≡ Encoded
+unfolding encoding valid keeps_phase keys_zero mcvs_zero all_zero
 closed = refl
 
 -- number and length: 0 and 138, 6 and 138, 1
-saving-numbers : savingAnswered (encoding new 138) ∷ savingAnswered (encoding new 137) ∷ savingAnswered (encoding broken 138) ∷ []
+saving_numbers : saving_answered (encoding new 138) ∷ saving_answered (encoding new 137) ∷ saving_answered (encoding broken 138) ∷ []
     ≡ answered 0 138 ∷ answered 6 138 ∷ answered 1 0 ∷ []
-unfolding encoding valid keepsPhase keysEnd mcvsZero allZero new broken
-saving-numbers = refl
+unfolding encoding valid keeps_phase keys_end mcvs_zero all_zero new broken
+saving_numbers = refl

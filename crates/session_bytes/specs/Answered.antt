@@ -2,7 +2,7 @@
 -- a refusal. Reading writes nothing, so its length is 0.
 use Rattle.std.specs.Prelude.{ℕ}
 use Rattle.refusal.specs.Refusal.{number, size}
-use Rattle.session_bytes.specs.Saved.{sessionSize}
+use Rattle.session_bytes.specs.Saved.{session_size}
 use Rattle.session_bytes.specs.declared.Encoding.{Encoding}
 use Rattle.session_bytes.specs.declared.Encoding.TheVariants.{Encoded, Refused as NotEncoded}
 use Rattle.session_bytes.specs.declared.Decoding.{Decoding}
@@ -15,10 +15,10 @@ pub record Answered : Type 0 where
 abbrev pub answered : ℕ → ℕ → Answered
 answered number length = record { number = number; length = length }
 
-abbrev pub savingAnswered : Encoding → Answered
-savingAnswered Encoded = answered 0 sessionSize
-savingAnswered (NotEncoded r) = answered (number r) (size r)
+abbrev pub saving_answered : Encoding → Answered
+saving_answered Encoded = answered 0 session_size
+saving_answered (NotEncoded r) = answered (number r) (size r)
 
-abbrev pub readingAnswered : Decoding → Answered
-readingAnswered Decoded = answered 0 0
-readingAnswered (NotDecoded r) = answered (number r) (size r)
+abbrev pub reading_answered : Decoding → Answered
+reading_answered Decoded = answered 0 0
+reading_answered (NotDecoded r) = answered (number r) (size r)

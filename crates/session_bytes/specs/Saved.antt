@@ -2,10 +2,10 @@
 use Rattle.std.specs.Prelude.{Bool, ◌&&◌, [], ◌∷◌, ◌++◌, ℕ, ◌-◌, eqb, leb, length, get_or, take, drop}
 use Rattle.octets.specs.Bytes.{Bytes}
 use Rattle.octets.specs.Choice.{if◌then◌else◌}
-use Rattle.octets_numbers.specs.BigEndian.{bigEndian, number_in}
+use Rattle.octets_numbers.specs.BigEndian.{big_endian, number_in}
 use Rattle.refusal.specs.declared.Refusal.TheVariants.{BadSession}
-use Rattle.session_suite.specs.Suites.{number, suiteOf}
-use Rattle.session.specs.Session.{noSession}
+use Rattle.session_suite.specs.Suites.{number, suite_of}
+use Rattle.session.specs.Session.{no_session}
 use Rattle.session.specs.declared.Side.{Side}
 use Rattle.session.specs.declared.Side.TheVariants.{Host, Card}
 use Rattle.session.specs.declared.Phase.{Phase}
@@ -19,25 +19,25 @@ use Rattle.session_bytes.specs.declared.Decoding.TheVariants.{Decoded as Done, R
 use Rattle.session_bytes.specs.declared.Decoded.{Decoded}
 
 -- the length of a saved session
-abbrev pub sessionSize : ℕ
-sessionSize = 138
+abbrev pub session_size : ℕ
+session_size = 138
 
 -- ---- writing
 
-abbrev pub sideNumber : Side → ℕ
-sideNumber Host = 0
-sideNumber Card = 1
+abbrev pub side_number : Side → ℕ
+side_number Host = 0
+side_number Card = 1
 
-abbrev pub phaseNumber : Phase → ℕ
-phaseNumber Ready = 0
-phaseNumber Pending = 1
-phaseNumber Closed = 2
+abbrev pub phase_number : Phase → ℕ
+phase_number Ready = 0
+phase_number Pending = 1
+phase_number Closed = 2
 
 -- length of the rest (00 88), version, side, phase, suite, count
 unfoldable pub header : Session → Bytes
 header s =
-    bigEndian 2 (sessionSize - 2) ++ 0x01 ∷ sideNumber s.side ∷ phaseNumber s.phase ∷ number s.suite
-    ∷ bigEndian 4 s.count
+    big_endian 2 (session_size - 2) ++ 0x01 ∷ side_number s.side ∷ phase_number s.phase ∷ number s.suite
+    ∷ big_endian 4 s.count
 
 unfoldable pub keys : Session → Bytes
 keys s = s.sk_enc ++ s.sk_mac ++ s.sk_rmac
@@ -57,25 +57,25 @@ part b at n = take n (drop at b)
 -- 138 bytes: length of the rest 00 88, version 01, side 0 or 1, phase 0, 1 or 2
 unfoldable pub headed : Bytes → Bool
 headed b =
-    eqb (length b) sessionSize && eqb (number_in (part b 0 2)) (sessionSize - 2) && eqb (get_or b 2 0) 0x01
+    eqb (length b) session_size && eqb (number_in (part b 0 2)) (session_size - 2) && eqb (get_or b 2 0) 0x01
     && leb (get_or b 3 0) 1 && leb (get_or b 4 0) 2
 
-abbrev pub sideFrom : ℕ → Side
-sideFrom n = if eqb n 0 then Host else Card
+abbrev pub side_from : ℕ → Side
+side_from n = if eqb n 0 then Host else Card
 
-abbrev pub phaseFrom : ℕ → Phase
-phaseFrom n = if eqb n 0 then Ready else if eqb n 1 then Pending else Closed
+abbrev pub phase_from : ℕ → Phase
+phase_from n = if eqb n 0 then Ready else if eqb n 1 then Pending else Closed
 
-abbrev pub countFrom : Bytes → ℕ
-countFrom b = number_in (part b 6 4)
+abbrev pub count_from : Bytes → ℕ
+count_from b = number_in (part b 6 4)
 
-unfoldable pub sessionFrom : Bytes → Suite → Session
-sessionFrom b suite =
+unfoldable pub session_from : Bytes → Suite → Session
+session_from b suite =
     record {
-      side = sideFrom (get_or b 3 0);
-      phase = phaseFrom (get_or b 4 0);
+      side = side_from (get_or b 3 0);
+      phase = phase_from (get_or b 4 0);
       suite = suite;
-      count = countFrom b;
+      count = count_from b;
       sk_enc = part b 10 32;
       sk_mac = part b 42 32;
       sk_rmac = part b 74 32;
@@ -83,20 +83,20 @@ sessionFrom b suite =
       response_mcv = part b 122 16;
     }
 
-abbrev pub decodedTo : Session → Decoded
-decodedTo s = record { answer = Done; session = s }
+abbrev pub decoded_to : Session → Decoded
+decoded_to s = record { answer = Done; session = s }
 
 -- 16, and no session
 abbrev pub unreadable : Decoded
-unreadable = record { answer = Refused BadSession; session = noSession Host }
+unreadable = record { answer = Refused BadSession; session = no_session Host }
 
 -- a session that keeps the rules
 unfoldable pub accepted : Session → Decoded
-accepted s = if valid s then decodedTo s else unreadable
+accepted s = if valid s then decoded_to s else unreadable
 
-unfoldable pub decodeSuite : Bytes → SuiteNumber → Decoded
-decodeSuite b (Known suite) = accepted (sessionFrom b suite)
-decodeSuite b Unknown = unreadable
+unfoldable pub decode_suite : Bytes → SuiteNumber → Decoded
+decode_suite b (Known suite) = accepted (session_from b suite)
+decode_suite b Unknown = unreadable
 
 unfoldable pub decode : Bytes → Decoded
-decode b = if headed b then decodeSuite b (suiteOf (get_or b 5 0)) else unreadable
+decode b = if headed b then decode_suite b (suite_of (get_or b 5 0)) else unreadable

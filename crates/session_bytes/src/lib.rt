@@ -3,10 +3,10 @@ mod read;
 
 ghost use Rattle.std.specs.Prelude.{◌≡◌, ◌+◌, ◌≤◌, length, get_or};
 ghost use Rattle.octets.specs.Write.{Wrote};
-ghost use Rattle.session_bytes.specs.Saved.{sessionSize, sideNumber, phaseNumber, header, keys, mcvs, encode, headed, unreadable, accepted, decodeSuite, decode};
+ghost use Rattle.session_bytes.specs.Saved.{session_size, side_number, phase_number, header, keys, mcvs, encode, headed, unreadable, accepted, decode_suite, decode};
 ghost use Rattle.octets.specs.Bytes.{IsBytes};
-ghost use Rattle.session_suite.specs.Suites.{suiteOf};
-ghost use Rattle.session_bytes.specs.Saving.{encoding, encodedIn};
+ghost use Rattle.session_suite.specs.Suites.{suite_of};
+ghost use Rattle.session_bytes.specs.Saving.{encoding, encoded_in};
 
 use octets::put_bytes;
 use octets_numbers::{put_four_byte_number, two_byte_number_at, wide};
@@ -47,7 +47,7 @@ pub enum Encoding {
 // session as bytes, and put the next one back by put_session where they have shown the room and the rules.
 pub fn encode(session: Session, out: &mut [u8]) -> Encoding
     ensures answer { result ≡ encoding session (length out.old) }
-    ensures output { out.new ≡ encodedIn out.old result session }
+    ensures output { out.new ≡ encoded_in out.old result session }
 {
     if valid(session) {
         if SIZE <= out.len() {
@@ -61,7 +61,7 @@ pub fn encode(session: Session, out: &mut [u8]) -> Encoding
 
 // Writes any session; the caller has the room.
 pub fn put_session(session: Session, out: &mut [u8]) -> usize
-    requires { sessionSize ≤ length out.old }
+    requires { session_size ≤ length out.old }
     ensures { Wrote out.old 0 (encode session) result out.new }
 {
     let k = put_header(session, out);
@@ -89,7 +89,7 @@ fn put_header(session: Session, out: &mut [u8]) -> usize
 }
 
 fn side_number(side: Side) -> u8
-    ensures { result ≡ sideNumber side }
+    ensures { result ≡ side_number side }
 {
     match side {
         Side::Host => 0,
@@ -98,7 +98,7 @@ fn side_number(side: Side) -> u8
 }
 
 fn phase_number(phase: Phase) -> u8
-    ensures { result ≡ phaseNumber phase }
+    ensures { result ≡ phase_number phase }
 {
     match phase {
         Phase::Ready => 0,
@@ -141,8 +141,8 @@ pub fn decode(bytes: &[u8]) -> Decoded
 }
 
 fn decode_suite(bytes: &[u8]) -> Decoded
-    requires { length bytes.now ≡ sessionSize }
-    ensures { result ≡ decodeSuite bytes.now (suiteOf (get_or bytes.now 5 0)) }
+    requires { length bytes.now ≡ session_size }
+    ensures { result ≡ decode_suite bytes.now (suite_of (get_or bytes.now 5 0)) }
 {
     let known = suite_of(wide(bytes[5]));
     match known {

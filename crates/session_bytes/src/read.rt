@@ -1,6 +1,6 @@
 // The session in the bytes of a saved one, whatever they hold (rule 8.1).
 ghost use Rattle.std.specs.Prelude.{◌≡◌, ◌+◌, ◌≤◌, length};
-ghost use Rattle.session_bytes.specs.Saved.{sessionSize, sideFrom, phaseFrom, part, sessionFrom};
+ghost use Rattle.session_bytes.specs.Saved.{session_size, side_from, phase_from, part, session_from};
 
 use octets::put_bytes;
 use octets_blocks::block_at;
@@ -9,7 +9,7 @@ use session::{Phase, Session, Side};
 use session_suite::Suite;
 
 fn side_from(n: u8) -> Side
-    ensures { result ≡ sideFrom n }
+    ensures { result ≡ side_from n }
 {
     if n == 0 {
         return Side::Host;
@@ -18,7 +18,7 @@ fn side_from(n: u8) -> Side
 }
 
 fn phase_from(n: u8) -> Phase
-    ensures { result ≡ phaseFrom n }
+    ensures { result ≡ phase_from n }
 {
     if n == 0 {
         return Phase::Ready;
@@ -39,8 +39,8 @@ fn key_at(bytes: &[u8], at: usize) -> [u8; 32]
 }
 
 pub fn session_from(bytes: &[u8], suite: Suite) -> Session
-    requires { length bytes.now ≡ sessionSize }
-    ensures { result ≡ sessionFrom bytes.now suite }
+    requires { length bytes.now ≡ session_size }
+    ensures { result ≡ session_from bytes.now suite }
 {
     Session {
         side: side_from(bytes[3]),

@@ -11,11 +11,11 @@ use Rattle.session_suite.specs.declared.Suite.TheVariants.{Cs2, Cs7}
 use Rattle.session.specs.declared.Phase.{Phase}
 use Rattle.session.specs.declared.Phase.TheVariants.{Ready, Pending, Closed}
 use Rattle.session.specs.declared.Session.{Session}
-use Rattle.session_rules.specs.Valid.{keepsPhase, valid}
-use Rattle.session_rules.specs.ZeroBytes.{allZero, keysEnd, keysZero, mcvsZero}
+use Rattle.session_rules.specs.Valid.{keeps_phase, valid}
+use Rattle.session_rules.specs.ZeroBytes.{all_zero, keys_end, keys_zero, mcvs_zero}
 
-abbrev sessionOf : Side → Phase → ℕ → Bytes → Bytes → Session
-sessionOf side phase count command response =
+abbrev session_of : Side → Phase → ℕ → Bytes → Bytes → Session
+session_of side phase count command response =
     record {
       side = side;
       phase = phase;
@@ -29,7 +29,7 @@ sessionOf side phase count command response =
     }
 
 abbrev session : Phase → ℕ → Bytes → Bytes → Session
-session = sessionOf Host
+session = session_of Host
 
 -- keys as given, and nothing counted or chained
 abbrev keyed : Suite → Phase → Bytes → Bytes → Bytes → Session
@@ -54,83 +54,83 @@ some : Bytes
 some = 1 ∷ zeros 15
 
 -- ---- the count, ready, pending, closed, and keys that are too long
-count-65535 : valid (session Ready 65535 some some) ≡ true
-unfolding valid keepsPhase keysEnd allZero
-count-65535 = refl
+count_65535 : valid (session Ready 65535 some some) ≡ true
+unfolding valid keeps_phase keys_end all_zero
+count_65535 = refl
 
-count-65536 : valid (session Ready 65536 some some) ≡ false
+count_65536 : valid (session Ready 65536 some some) ≡ false
 unfolding valid
-count-65536 = refl
+count_65536 = refl
 
-ready-at-0 : valid (session Ready 0 (zeros 16) (zeros 16)) ≡ true
-unfolding valid keepsPhase keysEnd mcvsZero allZero
-ready-at-0 = refl
+ready_at_0 : valid (session Ready 0 (zeros 16) (zeros 16)) ≡ true
+unfolding valid keeps_phase keys_end mcvs_zero all_zero
+ready_at_0 = refl
 
-command-value-at-0 : valid (session Ready 0 some (zeros 16)) ≡ false
-unfolding valid keepsPhase keysEnd mcvsZero allZero some
-command-value-at-0 = refl
+command_value_at_0 : valid (session Ready 0 some (zeros 16)) ≡ false
+unfolding valid keeps_phase keys_end mcvs_zero all_zero some
+command_value_at_0 = refl
 
-response-value-at-0 : valid (session Ready 0 (zeros 16) some) ≡ false
-unfolding valid keepsPhase keysEnd mcvsZero allZero some
-response-value-at-0 = refl
+response_value_at_0 : valid (session Ready 0 (zeros 16) some) ≡ false
+unfolding valid keeps_phase keys_end mcvs_zero all_zero some
+response_value_at_0 = refl
 
-pending-at-0 : valid (session Pending 0 (zeros 16) (zeros 16)) ≡ false
-unfolding valid keepsPhase keysEnd allZero
-pending-at-0 = refl
+pending_at_0 : valid (session Pending 0 (zeros 16) (zeros 16)) ≡ false
+unfolding valid keeps_phase keys_end all_zero
+pending_at_0 = refl
 
-pending-at-1 : valid (session Pending 1 some (zeros 16)) ≡ true
-unfolding valid keepsPhase keysEnd allZero
-pending-at-1 = refl
+pending_at_1 : valid (session Pending 1 some (zeros 16)) ≡ true
+unfolding valid keeps_phase keys_end all_zero
+pending_at_1 = refl
 
-response-value-at-1 : valid (session Pending 1 some some) ≡ false
-unfolding valid keepsPhase keysEnd allZero some
-response-value-at-1 = refl
+response_value_at_1 : valid (session Pending 1 some some) ≡ false
+unfolding valid keeps_phase keys_end all_zero some
+response_value_at_1 = refl
 
-response-value-at-2 : valid (session Pending 2 some some) ≡ true
-unfolding valid keepsPhase keysEnd allZero
-response-value-at-2 = refl
+response_value_at_2 : valid (session Pending 2 some some) ≡ true
+unfolding valid keeps_phase keys_end all_zero
+response_value_at_2 = refl
 
-closed-with-a-count : valid (session Closed 1 (zeros 16) (zeros 16)) ≡ false
-unfolding valid keepsPhase
-closed-with-a-count = refl
+closed_with_a_count : valid (session Closed 1 (zeros 16) (zeros 16)) ≡ false
+unfolding valid keeps_phase
+closed_with_a_count = refl
 
-closed-with-a-chaining-value : valid (session Closed 0 (zeros 16) some) ≡ false
-unfolding valid keepsPhase keysZero mcvsZero allZero some
-closed-with-a-chaining-value = refl
+closed_with_a_chaining_value : valid (session Closed 0 (zeros 16) some) ≡ false
+unfolding valid keeps_phase keys_zero mcvs_zero all_zero some
+closed_with_a_chaining_value = refl
 
-closed-with-a-command-chaining-value : valid (session Closed 0 some (zeros 16)) ≡ false
-unfolding valid keepsPhase keysZero mcvsZero allZero some
-closed-with-a-command-chaining-value = refl
+closed_with_a_command_chaining_value : valid (session Closed 0 some (zeros 16)) ≡ false
+unfolding valid keeps_phase keys_zero mcvs_zero all_zero some
+closed_with_a_command_chaining_value = refl
 
 -- the rules are the card's too
-response-value-at-1-of-a-card : valid (sessionOf Card Pending 1 some some) ≡ false
-unfolding valid keepsPhase keysEnd allZero some
-response-value-at-1-of-a-card = refl
+response_value_at_1_of_a_card : valid (session_of Card Pending 1 some some) ≡ false
+unfolding valid keeps_phase keys_end all_zero some
+response_value_at_1_of_a_card = refl
 
-long-sk-enc-of-cs2 : valid (keyed Cs2 Ready long (zeros 32) (zeros 32)) ≡ false
-unfolding valid keepsPhase keysEnd allZero long
-long-sk-enc-of-cs2 = refl
+long_sk_enc_of_cs2 : valid (keyed Cs2 Ready long (zeros 32) (zeros 32)) ≡ false
+unfolding valid keeps_phase keys_end all_zero long
+long_sk_enc_of_cs2 = refl
 
-long-sk-mac-of-cs2 : valid (keyed Cs2 Ready (zeros 32) long (zeros 32)) ≡ false
-unfolding valid keepsPhase keysEnd allZero long
-long-sk-mac-of-cs2 = refl
+long_sk_mac_of_cs2 : valid (keyed Cs2 Ready (zeros 32) long (zeros 32)) ≡ false
+unfolding valid keeps_phase keys_end all_zero long
+long_sk_mac_of_cs2 = refl
 
-long-sk-rmac-of-cs2 : valid (keyed Cs2 Ready (zeros 32) (zeros 32) long) ≡ false
-unfolding valid keepsPhase keysEnd allZero long
-long-sk-rmac-of-cs2 = refl
+long_sk_rmac_of_cs2 : valid (keyed Cs2 Ready (zeros 32) (zeros 32) long) ≡ false
+unfolding valid keeps_phase keys_end all_zero long
+long_sk_rmac_of_cs2 = refl
 
-long-keys-of-cs7 : valid (keyed Cs7 Ready long long long) ≡ true
-unfolding valid keepsPhase keysEnd mcvsZero allZero long
-long-keys-of-cs7 = refl
+long_keys_of_cs7 : valid (keyed Cs7 Ready long long long) ≡ true
+unfolding valid keeps_phase keys_end mcvs_zero all_zero long
+long_keys_of_cs7 = refl
 
-closed-with-sk-enc : valid (keyed Cs7 Closed long (zeros 32) (zeros 32)) ≡ false
-unfolding valid keepsPhase keysZero allZero long
-closed-with-sk-enc = refl
+closed_with_sk_enc : valid (keyed Cs7 Closed long (zeros 32) (zeros 32)) ≡ false
+unfolding valid keeps_phase keys_zero all_zero long
+closed_with_sk_enc = refl
 
-closed-with-sk-mac : valid (keyed Cs7 Closed (zeros 32) long (zeros 32)) ≡ false
-unfolding valid keepsPhase keysZero allZero long
-closed-with-sk-mac = refl
+closed_with_sk_mac : valid (keyed Cs7 Closed (zeros 32) long (zeros 32)) ≡ false
+unfolding valid keeps_phase keys_zero all_zero long
+closed_with_sk_mac = refl
 
-closed-with-sk-rmac : valid (keyed Cs7 Closed (zeros 32) (zeros 32) long) ≡ false
-unfolding valid keepsPhase keysZero allZero long
-closed-with-sk-rmac = refl
+closed_with_sk_rmac : valid (keyed Cs7 Closed (zeros 32) (zeros 32) long) ≡ false
+unfolding valid keeps_phase keys_zero all_zero long
+closed_with_sk_rmac = refl

@@ -4,25 +4,25 @@ use Rattle.octets.specs.Choice.{if◌then◌else◌}
 use Rattle.session.specs.declared.Phase.{Phase}
 use Rattle.session.specs.declared.Phase.TheVariants.{Ready, Pending, Closed}
 use Rattle.session.specs.declared.Session.{Session}
-use Rattle.session_rules.specs.ZeroBytes.{allZero, keysEnd, keysZero, mcvsZero}
+use Rattle.session_rules.specs.ZeroBytes.{all_zero, keys_end, keys_zero, mcvs_zero}
 
 -- ready: count 0 needs both chaining values zero
 -- pending: count 1 or more, and count 1 needs the response value zero
 -- closed: all after the suite is zero
-unfoldable pub keepsPhase : Session → Phase → Bool
-keepsPhase s Ready = keysEnd s && (if eqb s.count 0 then mcvsZero s else true)
-keepsPhase s Pending = keysEnd s && leb 1 s.count && (if eqb s.count 1 then allZero s.response_mcv else true)
-keepsPhase s Closed = eqb s.count 0 && keysZero s && mcvsZero s
+unfoldable pub keeps_phase : Session → Phase → Bool
+keeps_phase s Ready = keys_end s && (if eqb s.count 0 then mcvs_zero s else true)
+keeps_phase s Pending = keys_end s && leb 1 s.count && (if eqb s.count 1 then all_zero s.response_mcv else true)
+keeps_phase s Closed = eqb s.count 0 && keys_zero s && mcvs_zero s
 
 -- the count is at most 65,535
 unfoldable pub valid : Session → Bool
-valid s = leb s.count 65535 && keepsPhase s s.phase
+valid s = leb s.count 65535 && keeps_phase s s.phase
 
-abbrev pub isOpen : Phase → Bool
-isOpen Ready = true
-isOpen Pending = true
-isOpen Closed = false
+abbrev pub is_open : Phase → Bool
+is_open Ready = true
+is_open Pending = true
+is_open Closed = false
 
 -- a session that calls are served with: not closed, and by the rules
-unfoldable pub countsAsOpen : Session → Bool
-countsAsOpen s = isOpen s.phase && valid s
+unfoldable pub counts_as_open : Session → Bool
+counts_as_open s = is_open s.phase && valid s

@@ -1,22 +1,22 @@
 -- Rules 8.4 and 8.5: which bytes of a session value are zero.
 use Rattle.std.specs.Prelude.{Bool, true, ◌&&◌, [], ◌∷◌, eqb, drop}
 use Rattle.octets.specs.Bytes.{Bytes}
-use Rattle.session_suite.specs.Suites.{keyLength}
+use Rattle.session_suite.specs.Suites.{key_length}
 use Rattle.session.specs.declared.Session.{Session}
 
-unfoldable pub allZero : Bytes → Bool
-allZero [] = true
-allZero (b ∷ bs) = eqb b 0 && allZero bs
+unfoldable pub all_zero : Bytes → Bool
+all_zero [] = true
+all_zero (b ∷ bs) = eqb b 0 && all_zero bs
 
 -- a key of the suite's length, and zeros behind it
-unfoldable pub keysEnd : Session → Bool
-keysEnd s =
-    allZero (drop (keyLength s.suite) s.sk_enc)
-    && allZero (drop (keyLength s.suite) s.sk_mac)
-    && allZero (drop (keyLength s.suite) s.sk_rmac)
+unfoldable pub keys_end : Session → Bool
+keys_end s =
+    all_zero (drop (key_length s.suite) s.sk_enc)
+    && all_zero (drop (key_length s.suite) s.sk_mac)
+    && all_zero (drop (key_length s.suite) s.sk_rmac)
 
-unfoldable pub keysZero : Session → Bool
-keysZero s = allZero s.sk_enc && allZero s.sk_mac && allZero s.sk_rmac
+unfoldable pub keys_zero : Session → Bool
+keys_zero s = all_zero s.sk_enc && all_zero s.sk_mac && all_zero s.sk_rmac
 
-unfoldable pub mcvsZero : Session → Bool
-mcvsZero s = allZero s.command_mcv && allZero s.response_mcv
+unfoldable pub mcvs_zero : Session → Bool
+mcvs_zero s = all_zero s.command_mcv && all_zero s.response_mcv

@@ -2,13 +2,13 @@
 mod zeros;
 
 ghost use Rattle.std.specs.Prelude.{◌≡◌};
-ghost use Rattle.session_rules.specs.Valid.{keepsPhase, valid, isOpen};
+ghost use Rattle.session_rules.specs.Valid.{keeps_phase, valid, is_open};
 
 use session::{Phase, Session};
 use zeros::{all_zero, keys_end, keys_zero, mcvs_zero};
 
 fn keeps_ready(session: Session) -> bool
-    ensures { result ≡ keepsPhase session Phase.Ready }
+    ensures { result ≡ keeps_phase session Phase.Ready }
 {
     if keys_end(session) {
         if session.count == 0 {
@@ -20,7 +20,7 @@ fn keeps_ready(session: Session) -> bool
 }
 
 fn keeps_pending(session: Session) -> bool
-    ensures { result ≡ keepsPhase session Phase.Pending }
+    ensures { result ≡ keeps_phase session Phase.Pending }
 {
     let response_mcv = session.response_mcv;
     if keys_end(session) {
@@ -35,7 +35,7 @@ fn keeps_pending(session: Session) -> bool
 }
 
 fn keeps_closed(session: Session) -> bool
-    ensures { result ≡ keepsPhase session Phase.Closed }
+    ensures { result ≡ keeps_phase session Phase.Closed }
 {
     if session.count == 0 {
         if keys_zero(session) {
@@ -61,7 +61,7 @@ pub fn valid(session: Session) -> bool
 
 // Whether calls are served with a session that keeps the rules and is in that phase.
 pub fn is_open(phase: Phase) -> bool
-    ensures { result ≡ isOpen phase }
+    ensures { result ≡ is_open phase }
 {
     match phase {
         Phase::Ready => true,

@@ -1,11 +1,11 @@
 // Which bytes of a session value are zero (rules 8.4 and 8.5).
 ghost use Rattle.std.specs.Prelude.{◌≡◌, ◌≤◌, drop};
-ghost use Rattle.session_rules.specs.ZeroBytes.{allZero, keysEnd, keysZero, mcvsZero};
+ghost use Rattle.session_rules.specs.ZeroBytes.{all_zero, keys_end, keys_zero, mcvs_zero};
 
 use session::Session;
 
 pub fn all_zero(bytes: &[u8]) -> bool
-    ensures { result ≡ allZero bytes.now }
+    ensures { result ≡ all_zero bytes.now }
 {
     let mut i = 0;
     while i < bytes.len() {
@@ -20,13 +20,13 @@ pub fn all_zero(bytes: &[u8]) -> bool
 // Whether zeros stand behind the first n bytes.
 fn key_ends(key: [u8; 32], n: usize) -> bool
     requires { n ≤ 32 }
-    ensures { result ≡ allZero (drop n key) }
+    ensures { result ≡ all_zero (drop n key) }
 {
     all_zero(&key[n..])
 }
 
 pub fn keys_end(session: Session) -> bool
-    ensures { result ≡ keysEnd session }
+    ensures { result ≡ keys_end session }
 {
     let suite = session.suite;
     let sk_enc = session.sk_enc;
@@ -42,7 +42,7 @@ pub fn keys_end(session: Session) -> bool
 }
 
 pub fn keys_zero(session: Session) -> bool
-    ensures { result ≡ keysZero session }
+    ensures { result ≡ keys_zero session }
 {
     let sk_enc = session.sk_enc;
     let sk_mac = session.sk_mac;
@@ -56,7 +56,7 @@ pub fn keys_zero(session: Session) -> bool
 }
 
 pub fn mcvs_zero(session: Session) -> bool
-    ensures { result ≡ mcvsZero session }
+    ensures { result ≡ mcvs_zero session }
 {
     let command_mcv = session.command_mcv;
     let response_mcv = session.response_mcv;

@@ -12,18 +12,18 @@ use lib.ListN.{length, drop}
 use Rattle.octets.specs.Bytes.{Bytes, zeros}
 use Rattle.octets.specs.Write.{over}
 use Rattle.octets.proofs.Tests.{both}
-use Rattle.session_suite.specs.Suites.{keyLength}
-use Rattle.session_suite.specs.StoredKeys.{stored, Keys, keysFit}
+use Rattle.session_suite.specs.Suites.{key_length}
+use Rattle.session_suite.specs.StoredKeys.{stored, Keys, keys_fit}
 use Rattle.session_suite.specs.declared.Suite.{Suite}
 use Rattle.session_suite.specs.declared.Suite.TheVariants.{Cs2, Cs7}
 
-pub key-length-most : (suite : Suite) → keyLength suite ≤ 32
-key-length-most Cs2 = omega arith
-key-length-most Cs7 = omega arith
+pub key_length_most : (suite : Suite) → key_length suite ≤ 32
+key_length_most Cs2 = omega arith
+key_length_most Cs7 = omega arith
 
-pub key-size : (suite : Suite) (key : Bytes) → length key ≡ keyLength suite → (length key ≡ 16) ⊎ (length key ≡ 32)
-key-size Cs2 key e = inl e
-key-size Cs7 key e = inr e
+pub key_size_lem : (suite : Suite) (key : Bytes) → length key ≡ key_length suite → (length key ≡ 16) ⊎ (length key ≡ 32)
+key_size_lem Cs2 key e = inl e
+key_size_lem Cs7 key e = inr e
 
 -- the three lengths, where they fit
 pub record Fitting (n : ℕ) (k : Keys) : Type 0 where
@@ -31,8 +31,8 @@ pub record Fitting (n : ℕ) (k : Keys) : Type 0 where
   pub mac : length k.mac ≡ n
   pub rmac : length k.rmac ≡ n
 
-pub fitting : (n : ℕ) (k : Keys) → keysFit n k ≡ true → Fitting n k
-unfolding keysFit
+pub fitting : (n : ℕ) (k : Keys) → keys_fit n k ≡ true → Fitting n k
+unfolding keys_fit
 fitting n k e =
     let first = both (eqb (length k.enc) n && eqb (length k.mac) n) (eqb (length k.rmac) n) e in
     let second = both (eqb (length k.enc) n) (eqb (length k.mac) n) first.0 in
@@ -43,18 +43,18 @@ fitting n k e =
     }
 
 -- keys fit one suite only
-pub one-suite : (s t : Suite) (k : Keys) → keysFit (keyLength s) k ≡ true → keysFit (keyLength t) k ≡ true → t ≡ s
-one-suite Cs2 Cs2 k e f = refl
-one-suite Cs2 Cs7 k e f = let z : ⊥ = omega (arith, (fitting 16 k e).enc, (fitting 32 k f).enc) in absurd z
-one-suite Cs7 Cs2 k e f = let z : ⊥ = omega (arith, (fitting 32 k e).enc, (fitting 16 k f).enc) in absurd z
-one-suite Cs7 Cs7 k e f = refl
+pub one_suite : (s t : Suite) (k : Keys) → keys_fit (key_length s) k ≡ true → keys_fit (key_length t) k ≡ true → t ≡ s
+one_suite Cs2 Cs2 k e f = refl
+one_suite Cs2 Cs7 k e f = let z : ⊥ = omega (arith, (fitting 16 k e).enc, (fitting 32 k f).enc) in absurd z
+one_suite Cs7 Cs2 k e f = let z : ⊥ = omega (arith, (fitting 32 k e).enc, (fitting 16 k f).enc) in absurd z
+one_suite Cs7 Cs7 k e f = refl
 
-drop-zeros : (i n : ℕ) → i ≤ n → drop i (zeros n) ≡ zeros (n - i)
-drop-zeros zero n h = simp unary_clauses
-drop-zeros (suc i) zero h = let z : ⊥ = omega arith in absurd z
-drop-zeros (suc i) (suc n) h = simp unary_clauses (drop-zeros i n (omega arith))
+drop_zeros : (i n : ℕ) → i ≤ n → drop i (zeros n) ≡ zeros (n - i)
+drop_zeros zero n h = simp unary_clauses
+drop_zeros (suc i) zero h = let z : ⊥ = omega arith in absurd z
+drop_zeros (suc i) (suc n) h = simp unary_clauses (drop_zeros i n (omega arith))
 
 -- a key written over 32 zeros
 pub over_zeros : (key : Bytes) → length key ≤ 32 → over (zeros 32) key ≡ stored key
 unfolding over
-over_zeros key h = ap (λ (l : Bytes). key ++ l) (drop-zeros (length key) 32 h)
+over_zeros key h = ap (λ (l : Bytes). key ++ l) (drop_zeros (length key) 32 h)

@@ -7,13 +7,13 @@ use Rattle.session_suite.specs.declared.SuiteNumber.{SuiteNumber}
 use Rattle.session_suite.specs.declared.SuiteNumber.TheVariants.{Known, Unknown}
 
 -- the bytes of each session key: AES-128 for CS2, AES-256 for CS7
-abbrev pub keyLength : Suite → ℕ
-keyLength Cs2 = 16
-keyLength Cs7 = 32
+abbrev pub key_length : Suite → ℕ
+key_length Cs2 = 16
+key_length Cs7 = 32
 
 abbrev pub number : Suite → ℕ
 number Cs2 = 2
 number Cs7 = 7
 
-abbrev pub suiteOf : ℕ → SuiteNumber
-suiteOf n = if eqb n 2 then Known Cs2 else if eqb n 7 then Known Cs7 else Unknown
+abbrev pub suite_of : ℕ → SuiteNumber
+suite_of n = if eqb n 2 then Known Cs2 else if eqb n 7 then Known Cs7 else Unknown

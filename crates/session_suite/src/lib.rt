@@ -1,8 +1,8 @@
 // The cipher suites with their numbers and key lengths, and the session keys: as they are handed in, and in the 32 bytes that a
 // session stores.
 ghost use Rattle.std.specs.Prelude.{◌≡◌, ◌≤◌, length};
-ghost use Rattle.session_suite.specs.Suites.{keyLength, number, suiteOf};
-ghost use Rattle.session_suite.specs.StoredKeys.{keys, keysFit, stored};
+ghost use Rattle.session_suite.specs.Suites.{key_length, number, suite_of};
+ghost use Rattle.session_suite.specs.StoredKeys.{keys, keys_fit, stored};
 
 use octets::put_bytes;
 
@@ -22,7 +22,7 @@ pub enum SuiteNumber {
 
 // The suite of that number.
 pub fn suite_of(n: u32) -> SuiteNumber
-    ensures { result ≡ suiteOf n }
+    ensures { result ≡ suite_of n }
 {
     if n == 2 {
         return SuiteNumber::Known(Suite::Cs2);
@@ -36,7 +36,7 @@ pub fn suite_of(n: u32) -> SuiteNumber
 impl Suite {
     // The length of each session key.
     pub fn key_length(self) -> usize
-        ensures { result ≡ keyLength self }
+        ensures { result ≡ key_length self }
     {
         match self {
             Suite::Cs2 => 16,
@@ -66,7 +66,7 @@ pub fn stored(key: &[u8]) -> [u8; 32]
 
 // Whether each key has n bytes.
 pub fn keys_fit(n: usize, enc: &[u8], mac: &[u8], rmac: &[u8]) -> bool
-    ensures { result ≡ keysFit n (keys enc.now mac.now rmac.now) }
+    ensures { result ≡ keys_fit n (keys enc.now mac.now rmac.now) }
 {
     if enc.len() == n {
         if mac.len() == n {

@@ -5,8 +5,8 @@ use Rattle.session.specs.declared.Phase.TheVariants.{Ready, Pending}
 use Rattle.session.specs.declared.Session.{Session}
 
 -- a command wrapped, at the host, or accepted, at the card: counted, and outstanding
-abbrev pub commandTaken : Session → Bytes → Session
-commandTaken s mcv =
+abbrev pub command_taken : Session → Bytes → Session
+command_taken s mcv =
     record {
       phase = Pending;
       count = s.count + 1;
@@ -20,8 +20,8 @@ commandTaken s mcv =
     }
 
 -- its response wrapped, at the card, or accepted, at the host: ready again
-abbrev pub responseTaken : Session → Bytes → Session
-responseTaken s mcv =
+abbrev pub response_taken : Session → Bytes → Session
+response_taken s mcv =
     record {
       phase = Ready;
       response_mcv = mcv;

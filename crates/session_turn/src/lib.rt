@@ -1,12 +1,12 @@
 // Whose turn it is, and the session after a command and after its response (rule 3.3).
 ghost use Rattle.std.specs.Prelude.{◌≡◌, ◌<◌};
-ghost use Rattle.session_turn.specs.Turn.{sameSide, samePhase, isTurn};
-ghost use Rattle.session_turn.specs.Transitions.{commandTaken, responseTaken};
+ghost use Rattle.session_turn.specs.Turn.{same_side, same_phase, is_turn};
+ghost use Rattle.session_turn.specs.Transitions.{command_taken, response_taken};
 
 use session::{Phase, Session, Side};
 
 fn same_side(a: Side, b: Side) -> bool
-    ensures { result ≡ sameSide a b }
+    ensures { result ≡ same_side a b }
 {
     match a {
         Side::Host => match b {
@@ -21,7 +21,7 @@ fn same_side(a: Side, b: Side) -> bool
 }
 
 fn same_phase(a: Phase, b: Phase) -> bool
-    ensures { result ≡ samePhase a b }
+    ensures { result ≡ same_phase a b }
 {
     match a {
         Phase::Ready => match b {
@@ -44,7 +44,7 @@ fn same_phase(a: Phase, b: Phase) -> bool
 
 // Whether a call that is made at that side, in that phase, is in turn for a session whose own side and phase these are.
 pub fn is_turn(side: Side, phase: Phase, own: Side, current: Phase) -> bool
-    ensures { result ≡ isTurn side phase own current }
+    ensures { result ≡ is_turn side phase own current }
 {
     if same_side(own, side) {
         return same_phase(current, phase);
@@ -55,7 +55,7 @@ pub fn is_turn(side: Side, phase: Phase, own: Side, current: Phase) -> bool
 // After a command wrapped, at the host, or accepted, at the card.
 pub fn command_taken(session: Session, mcv: [u8; 16]) -> Session
     requires { session.count < 65535 }
-    ensures { result ≡ commandTaken session mcv }
+    ensures { result ≡ command_taken session mcv }
 {
     let side = session.side;
     let suite = session.suite;
@@ -78,7 +78,7 @@ pub fn command_taken(session: Session, mcv: [u8; 16]) -> Session
 
 // After its response wrapped, at the card, or accepted, at the host.
 pub fn response_taken(session: Session, mcv: [u8; 16]) -> Session
-    ensures { result ≡ responseTaken session mcv }
+    ensures { result ≡ response_taken session mcv }
 {
     let side = session.side;
     let suite = session.suite;

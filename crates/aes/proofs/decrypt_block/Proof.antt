@@ -3,16 +3,16 @@ use borrow.Author.Rules.{rules}
 use mathlib.Core.Path.{ap, ◌∙◌}
 use Rattle.aes_state.specs.State.{bytes_of}
 use Rattle.aes_key_expansion.specs.KeySizes.{nr}
-use Rattle.aes.specs.InvCipher.{invCipher}
-use Rattle.aes.specs.Aes.{invCiph}
+use Rattle.aes.specs.InvCipher.{inv_cipher}
+use Rattle.aes.specs.Aes.{inv_ciph}
 use Rattle.aes.proofs.decrypt_block.Statement.{statement}
 use Rattle.aes.proofs.decrypt_block.Tie as tie
 
 returns : tie.Need-returns
-unfolding invCiph
+unfolding inv_ciph
 returns c =
     let a = c.before.before.before.args in
-    c.bytes-of.ensures ∙ ap bytes_of (c.before.inv-cipher.ensures ∙ ap (invCipher (nr a.size) a.w.now) c.before.before.state-of.ensures)
+    c.bytes_of_lem.ensures ∙ ap bytes_of (c.before.inv-cipher.ensures ∙ ap (inv_cipher (nr a.size) a.w.now) c.before.before.state-of.ensures)
 
 pub decrypt-block-spec : {M : Type 1} → statement M
 decrypt-block-spec =

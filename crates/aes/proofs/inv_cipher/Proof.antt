@@ -1,9 +1,9 @@
 -- `inv_cipher` meets its contract: the steps of the standard, one after the other.
 use borrow.Author.Rules.{rules}
 use native.Mathlib.Omega.{arith}
-use Rattle.aes_sbox.specs.SBox.{invSBox}
+use Rattle.aes_sbox.specs.SBox.{inv_s_box}
 use Rattle.aes_key_expansion.proofs.Sizes.{bounds}
-use Rattle.aes.proofs.Rounds.{invCipher-whole}
+use Rattle.aes.proofs.Rounds.{inv_cipher_whole}
 use Rattle.aes.proofs.inv_cipher.Statement.{statement}
 use Rattle.aes.proofs.inv_cipher.Tie as tie
 
@@ -21,8 +21,8 @@ inv-middle-rounds-requires c κs =
 returns : tie.Need-returns
 returns c =
     let a = c.before.before.before.before.before.before.before.before.before.before.before.args in
-    invCipher-whole a.w.now a.s c.before.before.before.before.before.before.before.before.before.rounds.ensures c.before.before.before.before.before.before.before.before.round-key.ensures c.before.before.before.before.before.before.before.add-round-key.ensures
-    c.before.before.before.before.before.inv-middle-rounds.ensures c.before.before.before.inv-shift-rows.ensures (c.before.before.sub-bytes.ensures invSBox c.before.before.before.before.before.before.before.before.before.before.inv-sbox.ensures)
+    inv_cipher_whole a.w.now a.s c.before.before.before.before.before.before.before.before.before.rounds.ensures c.before.before.before.before.before.before.before.before.round-key.ensures c.before.before.before.before.before.before.before.add-round-key.ensures
+    c.before.before.before.before.before.inv-middle-rounds.ensures c.before.before.before.inv-shift-rows.ensures (c.before.before.sub-bytes.ensures inv_s_box c.before.before.before.before.before.before.before.before.before.before.inv-sbox.ensures)
     c.before.round-key2.ensures c.add-round-key2.ensures
 
 pub inv-cipher-spec : {M : Type 1} → statement M

@@ -1,12 +1,12 @@
 -- `add_round_key` meets its contract: each column is added.
 use borrow.Author.Rules.{rules}
 use Rattle.octets.proofs.ListsOfFour.{four}
-use Rattle.aes_state.specs.State.{addWord}
+use Rattle.aes_state.specs.State.{add_word}
 use Rattle.aes_add_round_key.proofs.add_round_key.Statement.{statement}
 use Rattle.aes_add_round_key.proofs.add_round_key.Tie as tie
 
 returns : tie.Need-returns
-unfolding addWord
+unfolding add_word
 returns c =
     four c.before.before.before.before.before.before.before.before.before.add-word.ensures
     c.before.before.before.before.before.before.add-word2.ensures

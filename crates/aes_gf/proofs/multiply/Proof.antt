@@ -8,7 +8,7 @@ use mir.Syntax.{w8}
 use mir.Val.{Fits}
 use Rattle.octets.specs.Bytes.{◌⊕◌}
 use Rattle.aes_gf.specs.Field.{product, ◌•◌}
-use Rattle.aes_gf.proofs.Product.{bit-times-lt, product-more}
+use Rattle.aes_gf.proofs.Product.{bit_times_lt, product_more}
 use Rattle.aes_gf.proofs.multiply.Statement.{statement}
 use Rattle.aes_gf.proofs.multiply.Tie as tie
 
@@ -23,7 +23,7 @@ loop-holds : tie.Need-loop-init invariant-loop decreases-loop
 loop-holds c = (search rules, search rules, search rules, refl)
 
 mul-sum : tie.Need-overflow-mul-sum invariant-loop decreases-loop
-mul-sum c = let l = c.before.loop in record { fits = bit-times-lt l.bits l.shifted l.invariant.2 }
+mul-sum c = let l = c.before.loop in record { fits = bit_times_lt l.bits l.shifted l.invariant.2 }
 
 loop-again : tie.Need-loop-preserved invariant-loop decreases-loop
 loop-again c =
@@ -32,7 +32,7 @@ loop-again c =
       omega arith,
       omega arith,
       byte.fits,
-      product-more l.sum l.left l.bits l.shifted c.x-times.result (omega arith) c.x-times.ensures l.invariant.3,
+      product_more l.sum l.left l.bits l.shifted c.x-times.result (omega arith) c.x-times.ensures l.invariant.3,
     )
 
 returns : tie.Need-returns invariant-loop decreases-loop

@@ -5,7 +5,7 @@ use Prim.Native.Nat.{ℕ, ◌≤◌, ◌-◌, ◌+◌, ◌*◌}
 use native.Mathlib.Omega.{arith}
 use lib.ListN.{length, length-set}
 use Rattle.aes_key_expansion.specs.KeySizes.{nk, nr}
-use Rattle.aes_key_expansion.specs.KeyExpansion.{keyExpansion, schedule}
+use Rattle.aes_key_expansion.specs.KeyExpansion.{key_expansion, schedule}
 use Rattle.aes_key_expansion.proofs.Sizes.{bounds}
 use Rattle.aes_key_expansion.proofs.Schedule.{filled, filled_none, filled_more}
 use Rattle.aes_key_expansion.proofs.key_expansion.Statement.{statement}
@@ -55,7 +55,7 @@ loop-again c =
     )
 
 returns : tie.Need-returns invariant-loop decreases-loop
-unfolding keyExpansion schedule filled
+unfolding key_expansion schedule filled
 returns c =
     let a = c.before.before.before.before.before.args in
     let L = c.before.loop in

@@ -5,17 +5,17 @@ use Prim.Native.Nat.{ℕ}
 use lib.ListN.{get_or}
 use Rattle.octets.proofs.ListsOfFour.{four}
 use Rattle.aes_mix_columns.proofs.MixColumn.{sum}
-use Rattle.aes_mix_columns.specs.MixColumn.{mixColumn}
+use Rattle.aes_mix_columns.specs.MixColumn.{mix_column}
 use Rattle.aes_mix_columns.proofs.mix_column.Statement.{statement}
 use Rattle.aes_mix_columns.proofs.mix_column.Tie as tie
 
 returns : tie.Need-returns
-unfolding mixColumn
+unfolding mix_column
 returns c =
     let s = c.before.before.before.before.before.before.before.before.args.t1 in
     let same : (r : ℕ) → get_or s r 0 ≡ get_or s r 0 = λ r. refl in
     four
-    (sum c.before.before.before.before.before.before.before.times-02.ensures c.before.before.before.before.before.before.times-03.ensures (same 2) (same 3))
+    (sum c.before.before.before.before.before.before.before.times_02.ensures c.before.before.before.before.before.before.times_03.ensures (same 2) (same 3))
     (sum (same 0) c.before.before.before.before.before.times-022.ensures c.before.before.before.before.times-032.ensures (same 3))
     (sum (same 0) (same 1) c.before.before.before.times-023.ensures c.before.before.times-033.ensures)
     (sum c.before.times-034.ensures (same 1) (same 2) c.times-024.ensures)

@@ -7,7 +7,7 @@ use borrow.Fn.Kinds.{In}
 use borrow.Fn.PlainCycle.{Measures, is, falls, and}
 use Rattle.aes_gf.specs.Field.{◌•◌}
 use Rattle.aes_inverses.specs.Inverse.{powers}
-use Rattle.aes_sbox.proofs.PowerSteps.{powers-none, powers-more}
+use Rattle.aes_sbox.proofs.PowerSteps.{powers_none, powers_more}
 use Rattle.aes_sbox.proofs.powers.Reads as reads
 use Rattle.aes_sbox.proofs.powers.Kinds as kinds
 use Rattle.aes_sbox.proofs.+powers.Lts-powers as lts
@@ -26,7 +26,7 @@ abbrev below : ℕ → In 0 kinds.ps
 below t = and 0 kinds.ps (falls 0 kinds.ps ◌<◌ μ-powers t) reads.Pre
 
 returns : (t : ℕ) → lts.Need-returns (multiply-reads.Asked, multiply-reads.Learnt, below t, reads.Post) (at-measure t) reads.Post
-returns t c = powers-none c.before.args.n c.before.args.b c.if1.true
+returns t c = powers_none c.before.args.n c.before.args.b c.if1.true
 
 sub-powers : (t : ℕ) → lts.Need-overflow-sub-powers (multiply-reads.Asked, multiply-reads.Learnt, below t, reads.Post) (at-measure t) reads.Post
 sub-powers t c = omega (arith, c.if1.false)
@@ -40,7 +40,7 @@ returns-2 t c =
     let a = c.before.before.before.before.args in
     c.multiply2.ensures
     ∙ ap (λ (x : ℕ). a.b • x) (c.before.powers.ensures ∙ ap (powers (a.n - 1)) c.before.before.multiply.ensures)
-    ∙ powers-more a.n a.b c.before.before.before.if1.false
+    ∙ powers_more a.n a.b c.before.before.before.if1.false
 
 pub +powers-spec : {M : Type 1} → statement M
 +powers-spec =

@@ -7,8 +7,8 @@ use Rattle.octets.specs.Write.{over}
 use Rattle.message_answer.specs.Answer.{Answer, buffer}
 use Rattle.capi_values.specs.Values.{given, number_of}
 use Rattle.capi_values.specs.declared.Values.{Values}
-use Rattle.capi_session.specs.SessionBytes.{Served, Held, heldIn, put_in, replaced}
-use Rattle.capi_session.proofs.Serving.{Gives, was_read, was-not-read, has_room}
+use Rattle.capi_session.specs.SessionBytes.{Served, Held, held_in, put_in, replaced}
+use Rattle.capi_session.proofs.Serving.{Gives, was_read, was_not_read, has_room}
 use Rattle.capi_close.specs.Call.{left, closes, leaves}
 use Rattle.capi_close.proofs.pivsm_close.Statement.{statement}
 use Rattle.capi_close.proofs.pivsm_close.Tie as tie
@@ -28,7 +28,7 @@ replace-session-requires c κs =
     let told = c.before.before.before in
     let reading = told.before.before.before in
     let a = reading.before.before.before.before.args in
-    has_room values none [] (heldIn a.session.now a.len.now) closes _ reading.session-in.ensures.0 told.enum_told.given.1
+    has_room values none [] (held_in a.session.now a.len.now) closes _ reading.session-in.ensures.0 told.enum_told.given.1
 
 returns : tie.Need-returns
 unfolding buffer over replaced
@@ -38,10 +38,10 @@ returns c =
     let reading = told.before.before.before in
     let a = reading.before.before.before.before.args in (
       left_is _ _ _
-          (was_read values none [] (heldIn a.session.now a.len.now) closes _ reading.session-in.ensures.0 told.enum_told.given.1
+          (was_read values none [] (held_in a.session.now a.len.now) closes _ reading.session-in.ensures.0 told.enum_told.given.1
           (given 0 0 0) _ [] refl
           (c.before.before.replace-session.ensures
-          ∙ ap (put_in (heldIn a.session.now a.len.now)) closing.close.ensures) refl),
+          ∙ ap (put_in (held_in a.session.now a.len.now)) closing.close.ensures) refl),
       reading.session-in.ensures.1,
     )
 
@@ -51,7 +51,7 @@ returns-2 c =
     let reading = told.before.before.before in
     let a = reading.before.before.before.before.args in (
       left_is _ _ _
-          (was-not-read values none [] (heldIn a.session.now a.len.now) closes _ reading.session-in.ensures.0
+          (was_not_read values none [] (held_in a.session.now a.len.now) closes _ reading.session-in.ensures.0
           _ told.read.given.1 (given c.number.result 0 0)
           (λ i. given (c.number.ensures i) 0 0)),
       reading.session-in.ensures.1,

@@ -1,7 +1,7 @@
 -- `pivsm_fragment_response` meets its contract: its numbers are those of the answer.
 use mathlib.Core.Path.{ap, ◌∙◌}
 use borrow.Author.Rules.{rules}
-use Rattle.capi_values.specs.ChainingValues.{responseFragmentValues}
+use Rattle.capi_values.specs.ChainingValues.{response_fragment_values}
 use Rattle.capi_fragment_response.specs.Call.{left}
 use Rattle.capi_fragment_response.proofs.pivsm_fragment_response.Statement.{statement}
 use Rattle.capi_fragment_response.proofs.pivsm_fragment_response.Tie as tie
@@ -9,7 +9,7 @@ use Rattle.capi_fragment_response.proofs.pivsm_fragment_response.Tie as tie
 returns : tie.Need-returns
 returns c =
     let f = c.before.before.before.fragment-response.ensures in
-    let v = c.response-fragment-values.ensures ∙ ap responseFragmentValues f.0 in
+    let v = c.response-fragment-values.ensures ∙ ap response_fragment_values f.0 in
     λ i. left (v i).number (f.1 i) (v i).len (v i).next
 
 pub pivsm-fragment-response-spec : {M : Type 1} → statement M

@@ -4,10 +4,10 @@ use lib.ListN.{length}
 use borrow.Author.Rules.{rules}
 use borrow.Author.Tests.{le-leb, lt-leb}
 use Rattle.octets.specs.Write.{over}
-use Rattle.octets.proofs.Writing.{wrote-all}
+use Rattle.octets.proofs.Writing.{wrote_all}
 use Rattle.refusal.specs.declared.Refusal.TheVariants.{BufferTooSmall}
 use Rattle.message_answer.specs.Answer.{refused, gave, buffer, require◌else◌⨾◌}
-use Rattle.chain_response.specs.Reassembly.{getResponse}
+use Rattle.chain_response.specs.Reassembly.{get_response}
 use Rattle.capi_get_response.specs.Call.{given, left, asked, leaves}
 use Rattle.capi_get_response.proofs.pivsm_get_response.Statement.{statement}
 use Rattle.capi_get_response.proofs.pivsm_get_response.Tie as tie
@@ -20,14 +20,14 @@ returns c =
     ap (leaves a.apdu.now) (sym e)
 
 returns-2 : tie.Need-returns-2
-unfolding buffer asked require◌else◌⨾◌ getResponse
+unfolding buffer asked require◌else◌⨾◌ get_response
 returns-2 c =
     let put = c.before.before in
     let asking = put.before.before.before in
     let a = asking.before.before.before.args in
     let room = asking.before.if1.false in
-    let e : asked (given a.le a.apdu.now) ≡ gave (getResponse a.le) = rw (le-leb 5 (length a.apdu.now) room) in
-    let bytes = wrote-all put.put-bytes.ensures ∙ ap (over a.apdu.now) asking.get-response.ensures in
+    let e : asked (given a.le a.apdu.now) ≡ gave (get_response a.le) = rw (le-leb 5 (length a.apdu.now) room) in
+    let bytes = wrote_all put.put-bytes.ensures ∙ ap (over a.apdu.now) asking.get_response_lem.ensures in
     (λ i. left 0 (bytes i) 5) ∙ ap (leaves a.apdu.now) (sym e)
 
 pub pivsm-get-response-spec : {M : Type 1} → statement M

@@ -2,20 +2,20 @@
 use mathlib.Core.Path.{sym, ap, subst, ◌∙◌}
 use borrow.Author.Rules.{rules}
 use Rattle.session.specs.declared.Side.TheVariants.{Card}
-use Rattle.capi_open.specs.Call.{OpenedValid, leavesOpened}
-use Rattle.capi_open.proofs.Saved.{opened-valid}
+use Rattle.capi_open.specs.Call.{OpenedValid, leaves_opened}
+use Rattle.capi_open.proofs.Saved.{opened_valid}
 use Rattle.capi_open.proofs.pivsm_open_card.Statement.{statement}
 use Rattle.capi_open.proofs.pivsm_open_card.Tie as tie
 
 put-opened-requires : tie.Need-put-opened-requires
 put-opened-requires c κs =
-    subst OpenedValid (sym c.before.before.open-card.ensures.0) (opened-valid Card _ _)
+    subst OpenedValid (sym c.before.before.open-card.ensures.0) (opened_valid Card _ _)
 
 returns : tie.Need-returns
 returns c =
     let opened = c.before.before.before.before.before in
     let a = opened.before.before.before.before.before.args in
-    (c.before.before.put-opened.ensures ∙ ap (leavesOpened a.session.now) opened.open-card.ensures.0, opened.open-card.ensures.1)
+    (c.before.before.put-opened.ensures ∙ ap (leaves_opened a.session.now) opened.open-card.ensures.0, opened.open-card.ensures.1)
 
 pub pivsm-open-card-spec : {M : Type 1} → statement M
 pivsm-open-card-spec = tie.close (tie.spec (λ c κs. search rules) put-opened-requires (λ c. search rules) returns)

@@ -1,12 +1,12 @@
 -- `chain_of` meets its contract.
 use mathlib.Core.Path.{refl}
 use borrow.Author.Rules.{rules}
-use Rattle.capi_reassemble_command.specs.ChainNumbers.{chainOf}
+use Rattle.capi_reassemble_command.specs.ChainNumbers.{chain_of}
 use Rattle.capi_reassemble_command.proofs.chain_of.Statement.{statement}
 use Rattle.capi_reassemble_command.proofs.chain_of.Tie as tie
 
 returns : tie.Need-returns
-unfolding chainOf
+unfolding chain_of
 returns c = refl
 
 pub chain-of-spec : {M : Type 1} → statement M

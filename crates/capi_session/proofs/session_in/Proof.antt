@@ -4,7 +4,7 @@ use lib.ListN.{length}
 use lib.Seq.{length-take-le}
 use borrow.Author.Rules.{rules}
 use borrow.Author.Tests.{le-leb, lt-leb}
-use Rattle.capi_session.specs.SessionBytes.{sessionIn}
+use Rattle.capi_session.specs.SessionBytes.{session_in}
 use Rattle.capi_session.proofs.session_in.Statement.{statement}
 use Rattle.capi_session.proofs.session_in.Tie as tie
 
@@ -12,7 +12,7 @@ slice-aggregate-decode : tie.Need-slice-aggregate-decode
 slice-aggregate-decode c = sym (length-take-le _ _ c.before.if1.true)
 
 returns : tie.Need-returns
-unfolding sessionIn
+unfolding session_in
 returns c =
     let a = c.before.before.before.before.args in (
       rw (le-leb a.len (length a.held.now) c.before.before.if1.true) c.decode.ensures.0,
@@ -20,7 +20,7 @@ returns c =
     )
 
 returns-2 : tie.Need-returns-2
-unfolding sessionIn
+unfolding session_in
 returns-2 c =
     let a = c.before.before.before.args in (
       rw (lt-leb a.len (length a.held.now) c.before.if1.false) c.unreadable.ensures,

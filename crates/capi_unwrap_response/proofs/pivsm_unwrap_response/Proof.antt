@@ -6,25 +6,25 @@ use Rattle.octets.specs.Bytes.{Bytes}
 use Rattle.session.specs.declared.Session.{Session}
 use Rattle.message_answer.specs.Answer.{Out}
 use Rattle.message_answer.specs.Message.{Response}
-use Rattle.message_ciphers.specs.Aes.{aesCiphers}
+use Rattle.message_ciphers.specs.Aes.{aes_ciphers}
 use Rattle.message_protocol.specs.Response.{hostUnwraps}
-use Rattle.message_result.specs.Results.{responseAnswer}
+use Rattle.message_result.specs.Results.{response_answer}
 use Rattle.message_result.specs.declared.ResponseResult.{ResponseResult}
-use Rattle.capi_values.specs.Values.{responseValues}
+use Rattle.capi_values.specs.Values.{response_values}
 use Rattle.capi_values.specs.declared.Values.{Values}
-use Rattle.capi_values.proofs.Numbers.{response-number}
+use Rattle.capi_values.proofs.Numbers.{response_number}
 use Rattle.capi_session.specs.SessionBytes.{Served, Held}
-use Rattle.capi_session.proofs.Serving.{Gives, read-valid, was-replaced, was-not-read, has_room}
+use Rattle.capi_session.proofs.Serving.{Gives, read_valid, was_replaced, was_not_read, has_room}
 use Rattle.capi_unwrap_response.specs.Call.{Given, given, left, leaves}
 use Rattle.capi_unwrap_response.proofs.pivsm_unwrap_response.Statement.{statement}
 use Rattle.capi_unwrap_response.proofs.pivsm_unwrap_response.Tie as tie
 
 -- the call, of a session
 abbrev call : Given → Session → Out Response
-call g s = hostUnwraps aesCiphers s g.sw g.field (length g.payload)
+call g s = hostUnwraps aes_ciphers s g.sw g.field (length g.payload)
 
 left_is : (before : Bytes) (x : Served Held Response) (v : Values) (h : Held) (after : Bytes)
-    → Gives (λ a. responseValues (responseAnswer a)) (λ m. m.payload) before x v h after
+    → Gives (λ a. response_values (response_answer a)) (λ m. m.payload) before x v h after
     → left v.number h.bytes h.len after v.len v.status ≡ leaves before x
 left_is before x v h after g i =
     left (g.numbers i).number (g.holds i).bytes (g.holds i).len (g.output i) (g.numbers i).len (g.numbers i).status
@@ -32,7 +32,7 @@ left_is before x v h after g i =
 unwrap-response-requires : tie.Need-unwrap-response-with-valid-session-requires
 unwrap-response-requires c κs =
     let told = c.before in
-    read-valid _ _ told.before.before.before.session-in.ensures.0 told.enum_told.given.1
+    read_valid _ _ told.before.before.before.session-in.ensures.0 told.enum_told.given.1
 
 replace-session-requires : tie.Need-replace-session-requires
 replace-session-requires c κs =
@@ -40,7 +40,7 @@ replace-session-requires c κs =
     let reading = told.before.before.before in
     let a = reading.before.before.before.before.before.before.args in
     let g = given a.session.now a.len.now a.sw a.field.now a.payload.now in
-    has_room (λ x. responseValues (responseAnswer x)) (λ m. m.payload) g.payload g.held (call g) _
+    has_room (λ x. response_values (response_answer x)) (λ m. m.payload) g.payload g.held (call g) _
     reading.session-in.ensures.0 told.enum_told.given.1
 
 returns : tie.Need-returns
@@ -54,9 +54,9 @@ returns c =
     let g = given a.session.now a.len.now a.sw a.field.now a.payload.now in
     let r = unwrapped.unwrap-response-with-valid-session.ensures in (
       left_is _ _ _ _ _
-          (was-replaced (λ x. responseValues (responseAnswer x)) (λ m. m.payload) g.payload g.held (call g) _
-          reading.session-in.ensures.0 told.enum_told.given.1 reading.session-in.ensures.1 _ refl response-number _ _ _ _
-          (valued.response-values.ensures ∙ ap (λ (x : ResponseResult). responseValues x.answer) r.0)
+          (was_replaced (λ x. response_values (response_answer x)) (λ m. m.payload) g.payload g.held (call g) _
+          reading.session-in.ensures.0 told.enum_told.given.1 reading.session-in.ensures.1 _ refl response_number _ _ _ _
+          (valued.response_values_lem.ensures ∙ ap (λ (x : ResponseResult). response_values x.answer) r.0)
           (ap (λ (x : ResponseResult). x.session) r.0) c.before.before.replace-session.ensures r.1),
       reading.session-in.ensures.1,
     )
@@ -68,7 +68,7 @@ returns-2 c =
     let a = reading.before.before.before.before.before.before.args in
     let g = given a.session.now a.len.now a.sw a.field.now a.payload.now in (
       left_is _ _ _ _ _
-          (was-not-read (λ x. responseValues (responseAnswer x)) (λ m. m.payload) g.payload g.held (call g) _
+          (was_not_read (λ x. response_values (response_answer x)) (λ m. m.payload) g.payload g.held (call g) _
           reading.session-in.ensures.0 _ told.read.given.1 _ c.refusal-values.ensures),
       reading.session-in.ensures.1,
     )

@@ -1,15 +1,15 @@
 -- `command_values` meets its contract: a length with Le, or a refusal.
 use mathlib.Core.Path.{sym, ap, ◌∙◌}
 use borrow.Author.Rules.{rules}
-use Rattle.capi_values.specs.Values.{given, commandValues}
+use Rattle.capi_values.specs.Values.{given, command_values}
 use Rattle.capi_values.proofs.command_values.Statement.{statement}
 use Rattle.capi_values.proofs.command_values.Tie as tie
 
 returns : tie.Need-returns
-returns c = ap commandValues (sym c.before.answer.given.1)
+returns c = ap command_values (sym c.before.answer.given.1)
 
 returns-2 : tie.Need-returns-2
-returns-2 c = c.refusal-values.ensures ∙ ap commandValues (sym c.before.before.answer2.given.1)
+returns-2 c = c.refusal-values.ensures ∙ ap command_values (sym c.before.before.answer2.given.1)
 
 pub command-values-spec : {M : Type 1} → statement M
 command-values-spec = tie.close (tie.spec (λ c. search rules) (λ c. search rules) (λ c κs. search rules) returns returns-2)

@@ -1,16 +1,16 @@
 -- `response_fragment_values` meets its contract: a length with the next index, or a refusal.
 use mathlib.Core.Path.{sym, ap, ◌∙◌}
 use borrow.Author.Rules.{rules}
-use Rattle.capi_values.specs.ChainingValues.{responseFragmentValues}
+use Rattle.capi_values.specs.ChainingValues.{response_fragment_values}
 use Rattle.capi_values.specs.Values.{given}
 use Rattle.capi_values.proofs.response_fragment_values.Statement.{statement}
 use Rattle.capi_values.proofs.response_fragment_values.Tie as tie
 
 returns : tie.Need-returns
-returns c = ap responseFragmentValues (sym c.before.answer.given.1)
+returns c = ap response_fragment_values (sym c.before.answer.given.1)
 
 returns-2 : tie.Need-returns-2
-returns-2 c = c.refusal-values.ensures ∙ ap responseFragmentValues (sym c.before.before.answer2.given.1)
+returns-2 c = c.refusal-values.ensures ∙ ap response_fragment_values (sym c.before.before.answer2.given.1)
 
 pub response-fragment-values-spec : {M : Type 1} → statement M
 response-fragment-values-spec = tie.close (tie.spec (λ c. search rules) (λ c. search rules) (λ c κs. search rules) returns returns-2)

@@ -5,25 +5,25 @@ use borrow.Author.Rules.{rules}
 use Rattle.octets.specs.Bytes.{Bytes}
 use Rattle.session.specs.declared.Session.{Session}
 use Rattle.message_answer.specs.Answer.{Out}
-use Rattle.message_ciphers.specs.Aes.{aesCiphers}
+use Rattle.message_ciphers.specs.Aes.{aes_ciphers}
 use Rattle.message_protocol.specs.Command.{hostWraps}
-use Rattle.message_result.specs.Results.{wrapAnswer}
+use Rattle.message_result.specs.Results.{wrap_answer}
 use Rattle.message_result.specs.declared.WrapResult.{WrapResult}
-use Rattle.capi_values.specs.Values.{wrapValues}
+use Rattle.capi_values.specs.Values.{wrap_values}
 use Rattle.capi_values.specs.declared.Values.{Values}
-use Rattle.capi_values.proofs.Numbers.{wrap-number}
+use Rattle.capi_values.proofs.Numbers.{wrap_number}
 use Rattle.capi_session.specs.SessionBytes.{Served, Held}
-use Rattle.capi_session.proofs.Serving.{Gives, read-valid, was-replaced, was-not-read, has_room}
+use Rattle.capi_session.proofs.Serving.{Gives, read_valid, was_replaced, was_not_read, has_room}
 use Rattle.capi_wrap_command.specs.Call.{Given, given, left, leaves}
 use Rattle.capi_wrap_command.proofs.pivsm_wrap_command.Statement.{statement}
 use Rattle.capi_wrap_command.proofs.pivsm_wrap_command.Tie as tie
 
 -- the call, of a session
 abbrev call : Given → Session → Out Bytes
-call g s = hostWraps aesCiphers s g.message (length g.field)
+call g s = hostWraps aes_ciphers s g.message (length g.field)
 
 left_is : (before : Bytes) (x : Served Held Bytes) (v : Values) (h : Held) (after : Bytes)
-    → Gives (λ a. wrapValues (wrapAnswer a)) (λ (bytes : Bytes). bytes) before x v h after
+    → Gives (λ a. wrap_values (wrap_answer a)) (λ (bytes : Bytes). bytes) before x v h after
     → left v.number h.bytes h.len after v.len ≡ leaves before x
 left_is before x v h after g i =
     left (g.numbers i).number (g.holds i).bytes (g.holds i).len (g.output i) (g.numbers i).len
@@ -31,7 +31,7 @@ left_is before x v h after g i =
 wrap-command-requires : tie.Need-wrap-command-with-valid-session-requires
 wrap-command-requires c κs =
     let told = c.before in
-    read-valid _ _ told.before.before.before.session-in.ensures.0 told.enum_told.given.1
+    read_valid _ _ told.before.before.before.session-in.ensures.0 told.enum_told.given.1
 
 replace-session-requires : tie.Need-replace-session-requires
 replace-session-requires c κs =
@@ -39,7 +39,7 @@ replace-session-requires c κs =
     let reading = told.before.before.before in
     let a = reading.before.before.before.before.before.before.args in
     let g = given a.session.now a.len.now a.ins a.p1 a.p2 a.le a.payload.now a.field.now in
-    has_room (λ x. wrapValues (wrapAnswer x)) (λ (bytes : Bytes). bytes) g.field g.held (call g) _
+    has_room (λ x. wrap_values (wrap_answer x)) (λ (bytes : Bytes). bytes) g.field g.held (call g) _
     reading.session-in.ensures.0 told.enum_told.given.1
 
 returns : tie.Need-returns
@@ -53,9 +53,9 @@ returns c =
     let g = given a.session.now a.len.now a.ins a.p1 a.p2 a.le a.payload.now a.field.now in
     let r = wrapped.wrap-command-with-valid-session.ensures in (
       left_is _ _ _ _ _
-          (was-replaced (λ x. wrapValues (wrapAnswer x)) (λ (bytes : Bytes). bytes) g.field g.held (call g) _
-          reading.session-in.ensures.0 told.enum_told.given.1 reading.session-in.ensures.1 _ refl wrap-number _ _ _ _
-          (valued.wrap-values.ensures ∙ ap (λ (x : WrapResult). wrapValues x.answer) r.0)
+          (was_replaced (λ x. wrap_values (wrap_answer x)) (λ (bytes : Bytes). bytes) g.field g.held (call g) _
+          reading.session-in.ensures.0 told.enum_told.given.1 reading.session-in.ensures.1 _ refl wrap_number _ _ _ _
+          (valued.wrap_values_lem.ensures ∙ ap (λ (x : WrapResult). wrap_values x.answer) r.0)
           (ap (λ (x : WrapResult). x.session) r.0) c.before.before.replace-session.ensures r.1.0),
       (reading.session-in.ensures.1, r.1.1.0),
     )
@@ -67,7 +67,7 @@ returns-2 c =
     let a = reading.before.before.before.before.before.before.args in
     let g = given a.session.now a.len.now a.ins a.p1 a.p2 a.le a.payload.now a.field.now in (
       left_is _ _ _ _ _
-          (was-not-read (λ x. wrapValues (wrapAnswer x)) (λ (bytes : Bytes). bytes) g.field g.held (call g) _
+          (was_not_read (λ x. wrap_values (wrap_answer x)) (λ (bytes : Bytes). bytes) g.field g.held (call g) _
           reading.session-in.ensures.0 _ told.read.given.1 _ c.refusal-values.ensures),
       (reading.session-in.ensures.1, λ i l. (reading.before.before.before.before.shared-slice-known.given i).fits),
     )

@@ -2,10 +2,10 @@
 use borrow.Author.Rules.{rules}
 use Rattle.chain_parts.proofs.part_end.Statement.{statement}
 use Rattle.chain_parts.proofs.part_end.Tie as tie
-use Rattle.chain_parts.proofs.PartEnds.{full-part, rest_part}
+use Rattle.chain_parts.proofs.PartEnds.{full_part, rest_part}
 
 returns : tie.Need-returns
-returns c = let a = c.before.args in full-part a.bytes.now a.start a.most c.before.requires c.if1.true
+returns c = let a = c.before.args in full_part a.bytes.now a.start a.most c.before.requires c.if1.true
 
 returns-2 : tie.Need-returns-2
 returns-2 c = let a = c.before.args in rest_part a.bytes.now a.start a.most c.before.requires c.if1.false

@@ -2,10 +2,10 @@
 use Rattle.chain_reassemble_response.proofs.get_response.Statement.{statement}
 use Rattle.chain_reassemble_response.proofs.get_response.Tie as tie
 use mathlib.Core.Path.{refl}
-use Rattle.chain_response.specs.Reassembly.{getResponse}
+use Rattle.chain_response.specs.Reassembly.{get_response}
 
 returns : tie.Need-returns
-unfolding getResponse
+unfolding get_response
 returns c = refl
 
 pub get-response-spec : {M : Type 1} → statement M

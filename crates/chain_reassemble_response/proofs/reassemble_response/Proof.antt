@@ -5,12 +5,12 @@ use Rattle.chain_reassemble_response.proofs.reassemble_response.Statement.{state
 use Rattle.chain_reassemble_response.proofs.reassemble_response.Tie as tie
 use mathlib.Core.Path.{sym, ◌∙◌}
 use Rattle.chain_response.specs.declared.ResponseReassemblyAnswer.TheVariants.{Refused}
-use Rattle.chain_reassemble_response.proofs.ResponseCases.{may-take, result-passed, buffer-passed, result-refused, buffer-refused}
+use Rattle.chain_reassemble_response.proofs.ResponseCases.{may_take, result_passed, buffer_passed, result_refused, buffer_refused}
 
 take-fragment-requires : tie.Need-take-fragment-requires
 take-fragment-requires c κs =
     let a = c.before.before.before.before.before.before.before.args in
-    let m = may-take a.chain a.bytes.now a.out.now (sym c.before.before.before.reassembly-checks.ensures ∙ c.before.enum_told.given.1) in
+    let m = may_take a.chain a.bytes.now a.out.now (sym c.before.before.before.reassembly-checks.ensures ∙ c.before.enum_told.given.1) in
     (m.whole, m.fits)
 
 returns : tie.Need-returns
@@ -18,13 +18,13 @@ returns c =
     let a = c.before.before.before.before.before.before.before.before.before.before.args in
     let e = sym c.before.before.before.before.before.before.reassembly-checks.ensures ∙ c.before.before.before.before.enum_told.given.1 in
     let t = c.before.before.take-fragment.ensures in
-    (t.0 ∙ sym (result-passed a.chain a.bytes.now a.out.now e), t.1 ∙ sym (buffer-passed a.chain a.bytes.now a.out.now e))
+    (t.0 ∙ sym (result_passed a.chain a.bytes.now a.out.now e), t.1 ∙ sym (buffer_passed a.chain a.bytes.now a.out.now e))
 
 returns-2 : tie.Need-returns-2
 returns-2 c =
     let a = c.before.before.before.before.before.before.before.args in
     let e = sym c.before.before.before.reassembly-checks.ensures ∙ c.before.checked.given.1 in
-    ((λ i. record { answer = Refused c.before.checked.given.0.0; chain = c.before.before.before.before.empty-chain.ensures i }) ∙ sym (result-refused a.chain a.bytes.now a.out.now _ e), sym (buffer-refused a.chain a.bytes.now a.out.now _ e))
+    ((λ i. record { answer = Refused c.before.checked.given.0.0; chain = c.before.before.before.before.empty-chain.ensures i }) ∙ sym (result_refused a.chain a.bytes.now a.out.now _ e), sym (buffer_refused a.chain a.bytes.now a.out.now _ e))
 
 pub reassemble-response-spec : {M : Type 1} → statement M
 reassemble-response-spec =

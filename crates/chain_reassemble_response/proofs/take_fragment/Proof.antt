@@ -9,10 +9,10 @@ use native.Mathlib.Omega.{arith}
 use lib.ListN.{length}
 use lib.Seq.{length-take-le}
 use Rattle.octets.specs.Bytes.{Bytes}
-use Rattle.chain_response.specs.Reassembly.{dataLength, data_of}
+use Rattle.chain_response.specs.Reassembly.{data_length, data_of}
 
-size : (b : Bytes) → length (data_of b) ≡ dataLength b
-size b = length-take-le (dataLength b) b (omega arith)
+size : (b : Bytes) → length (data_of b) ≡ data_length b
+size b = length-take-le (data_length b) b (omega arith)
 
 slice-aggregate-put-bytes : tie.Need-slice-aggregate-put-bytes
 slice-aggregate-put-bytes c = sym (size c.before.before.before.before.args.bytes.now)

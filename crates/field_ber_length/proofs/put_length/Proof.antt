@@ -4,7 +4,7 @@ use mathlib.Core.Path.{◌≡◌, ap}
 use Prim.Native.Nat.{◌/◌, ◌%◌}
 use native.Mathlib.Omega.{arith}
 use lib.ListN.{length}
-use Rattle.field_ber_length.proofs.LengthForms.{one_byte, two_bytes, three-bytes}
+use Rattle.field_ber_length.proofs.LengthForms.{one_byte, two_bytes, three_bytes}
 use Rattle.field_ber_length.proofs.put_length.Statement.{statement}
 use Rattle.field_ber_length.proofs.put_length.Tie as tie
 
@@ -30,13 +30,13 @@ returns-2 c =
 
 put-bytes-requires-3 : tie.Need-put-bytes-requires-3
 put-bytes-requires-3 c κs =
-    omega (arith, ap length (three-bytes c.before.before.before.before.before.args.n c.before.before.if2.false))
+    omega (arith, ap length (three_bytes c.before.before.before.before.before.args.n c.before.before.if2.false))
 
 returns-3 : tie.Need-returns-3
 returns-3 c =
     let n = c.before.before.before.before.before.before.before.before.args.n in
     let e : n / 256 % 256 ≡ n / 256 = omega (arith, c.before.before.before.before.before.before.before.before.requires) in
-    rw (three-bytes n c.before.before.before.before.before.if2.false) (rw e at c.before.before.put-bytes3.ensures)
+    rw (three_bytes n c.before.before.before.before.before.if2.false) (rw e at c.before.before.put-bytes3.ensures)
 
 pub put-length-spec : {M : Type 1} → statement M
 put-length-spec =

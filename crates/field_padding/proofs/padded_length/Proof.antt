@@ -1,11 +1,11 @@
 -- `padded_length` meets its contract: the formula.
 use borrow.Author.Rules.{rules}
-use Rattle.field_padding.specs.Padding.{paddedLength}
+use Rattle.field_padding.specs.Padding.{padded_length}
 use Rattle.field_padding.proofs.padded_length.Statement.{statement}
 use Rattle.field_padding.proofs.padded_length.Tie as tie
 
 returns : tie.Need-returns
-unfolding paddedLength
+unfolding padded_length
 returns c = search rules
 
 pub padded-length-spec : {M : Type 1} → statement M

@@ -4,13 +4,13 @@ use mathlib.Core.Path.{◌≡◌, sym, ◌∙◌}
 use Prim.Native.Nat.{◌≤◌}
 use native.Mathlib.Omega.{arith}
 use lib.ListN.{length}
-use Rattle.field_padding.specs.Padding.{marked, markBefore, unpad}
-use Rattle.field_padding.proofs.Unpadding.{back-over-zero, back-to-mark, back-to-none}
+use Rattle.field_padding.specs.Padding.{marked, mark_before, unpad}
+use Rattle.field_padding.proofs.Unpadding.{back_over_zero, back_to_mark, back_to_none}
 use Rattle.field_padding.proofs.unpad.Statement.{statement}
 use Rattle.field_padding.proofs.unpad.Tie as tie
 
 abbrev invariant-loop : tie.invariant-loop
-invariant-loop bytes left₀ n₀ left n = (left ≤ n) × (n ≤ length bytes) × (markBefore left bytes n ≡ unpad bytes)
+invariant-loop bytes left₀ n₀ left n = (left ≤ n) × (n ≤ length bytes) × (mark_before left bytes n ≡ unpad bytes)
 
 abbrev decreases-loop : tie.decreases-loop
 decreases-loop bytes left₀ n₀ left n = left
@@ -23,17 +23,17 @@ returns : tie.Need-returns invariant-loop decreases-loop
 returns c =
     let L = c.before.before.before.before.loop in
     let xs = c.before.before.before.before.before.before.before.args.bytes.now in
-    c.marked.ensures ∙ sym (back-to-mark L.left xs L.n c.before.before.before.loop-test.true c.before.if1.true) ∙ L.invariant.2
+    c.marked.ensures ∙ sym (back_to_mark L.left xs L.n c.before.before.before.loop-test.true c.before.if1.true) ∙ L.invariant.2
 
 loop-again : tie.Need-loop-preserved invariant-loop decreases-loop
 loop-again c =
     let L = c.before.before.before.loop in
     let xs = c.before.before.before.before.before.before.args.bytes.now in
-    (omega arith, omega arith, sym (back-over-zero L.left xs L.n c.before.before.loop-test.true c.if1.false) ∙ L.invariant.2)
+    (omega arith, omega arith, sym (back_over_zero L.left xs L.n c.before.before.loop-test.true c.if1.false) ∙ L.invariant.2)
 
 returns-2 : tie.Need-returns-2 invariant-loop decreases-loop
 returns-2 c =
-    let L = c.before.loop in sym (back-to-none L.left c.before.before.before.before.args.bytes.now L.n (omega arith)) ∙ L.invariant.2
+    let L = c.before.loop in sym (back_to_none L.left c.before.before.before.before.args.bytes.now L.n (omega arith)) ∙ L.invariant.2
 
 pub unpad-spec : {M : Type 1} → statement M
 unpad-spec =

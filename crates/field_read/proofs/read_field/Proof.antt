@@ -6,9 +6,9 @@ use native.Mathlib.Omega.{arith}
 use lib.ListN.{length}
 use Rattle.octets.specs.Bytes.{Bytes}
 use Rattle.field_expected.specs.Wanted.{rank}
-use Rattle.field_object.specs.Object.{readObject}
+use Rattle.field_object.specs.Object.{read_object}
 use Rattle.field_object.specs.Step.{index_after, read_step}
-use Rattle.field_read.specs.Field.{refused, walk, readField}
+use Rattle.field_read.specs.Field.{refused, walk, read_field}
 use Rattle.field_expected.specs.declared.Wanted.{Wanted}
 use Rattle.field_object.specs.declared.DataObject.{DataObject}
 use Rattle.field_object.specs.declared.ObjectRead.{ObjectRead}
@@ -16,13 +16,13 @@ use Rattle.field_object.specs.declared.ObjectRead.TheVariants.{Object}
 use Rattle.field_object.specs.declared.Step.{Step}
 use Rattle.field_read.specs.declared.Objects.{Objects}
 use Rattle.field_object.proofs.Inversion.{stands, later, rank_most, some_byte}
-use Rattle.field_read.proofs.Walk.{walk_end, walk-object, walk-breach}
+use Rattle.field_read.proofs.Walk.{walk_end, walk_object, walk_breach}
 use Rattle.field_read.proofs.read_field.Statement.{statement}
 use Rattle.field_read.proofs.read_field.Tie as tie
 
 -- of a step, what was read, and behind an object the reader's index
 module _ (w : Wanted) (r : ℕ) (xs : Bytes) (at : ℕ) (t : Step) where
-  step-read : t ≡ read_step w r xs at → t.read ≡ readObject w r xs at
+  step-read : t ≡ read_step w r xs at → t.read ≡ read_object w r xs at
   step-read e = ap (λ (u : Step). u.read) e
 
   step-index : (d : DataObject) → t ≡ read_step w r xs at → t.read ≡ Object d → t.at ≡ d.next
@@ -31,13 +31,13 @@ module _ (w : Wanted) (r : ℕ) (xs : Bytes) (at : ℕ) (t : Step) where
 
 abbrev invariant-loop : tie.invariant-loop
 invariant-loop wanted field second objects₀ place₀ at₀ objects place at =
-    (k : ℕ) × (4 ≤ k + place) × (place ≤ 3) × (walk k wanted field objects place at ≡ readField wanted field)
+    (k : ℕ) × (4 ≤ k + place) × (place ≤ 3) × (walk k wanted field objects place at ≡ read_field wanted field)
 
 abbrev decreases-loop : tie.decreases-loop
 decreases-loop wanted field second objects₀ place₀ at₀ objects place at = length field - at
 
 loop-holds : tie.Need-loop-init invariant-loop decreases-loop
-unfolding readField
+unfolding read_field
 loop-holds c = (4, search rules, search rules, refl)
 
 returns : tie.Need-returns invariant-loop decreases-loop
@@ -47,7 +47,7 @@ returns c =
     let L = c.before.before.before.before.before.loop in
     let told = c.before.enum_told.given.1 in
     c.refused.ensures ∙ ap refused told
-    ∙ sym (walk-breach a.wanted a.field.now L.objects L.place L.at L.invariant.0 _ (omega arith) c.before.before.before.before.loop-test.true
+    ∙ sym (walk_breach a.wanted a.field.now L.objects L.place L.at L.invariant.0 _ (omega arith) c.before.before.before.before.loop-test.true
     (sym (step-read a.wanted L.place a.field.now L.at _ c.before.before.before.read_at.ensures) ∙ told))
     ∙ L.invariant.3
 
@@ -93,7 +93,7 @@ loop-again c =
       omega (arith, place, rank_most a.wanted.second d.tag),
       ap (walk (L.invariant.0 - 1) a.wanted xs _ _) next
           ∙ ap₂ (λ (o : Objects) (r : ℕ). walk (L.invariant.0 - 1) a.wanted xs o r d.next) c.before.noted.ensures place
-          ∙ sym (walk-object a.wanted xs L.objects L.place L.at L.invariant.0 d (omega arith) c.before.before.before.before.before.before.loop-test.true read)
+          ∙ sym (walk_object a.wanted xs L.objects L.place L.at L.invariant.0 d (omega arith) c.before.before.before.before.before.before.loop-test.true read)
           ∙ L.invariant.3,
     )
 

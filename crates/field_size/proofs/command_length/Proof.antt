@@ -4,28 +4,28 @@ use Rattle.field_size.proofs.command_length.Statement.{statement}
 use Rattle.field_size.proofs.command_length.Tie as tie
 use native.Mathlib.Omega.{arith}
 use mathlib.Core.Path.{ap, ◌∙◌}
-use Rattle.field_size.proofs.LengthBounds.{data-most, ciphertext-most}
-use Rattle.field_size.specs.Lengths.{commandLength, encryptedDataLength}
+use Rattle.field_size.proofs.LengthBounds.{data_most, ciphertext_most}
+use Rattle.field_size.specs.Lengths.{command_length, encrypted_data_length}
 
 encrypted-data-length-requires : tie.Need-encrypted-data-length-requires
-encrypted-data-length-requires c κs = omega (arith, c.ciphertext-length.ensures, ciphertext-most c.before.args.p c.before.requires)
+encrypted-data-length-requires c κs = omega (arith, c.ciphertext-length.ensures, ciphertext_most c.before.args.p c.before.requires)
 
 add-result : tie.Need-overflow-add-result
-add-result c = record { fits = omega (arith, c.before.encrypted-data-length.ensures, c.before.before.ciphertext-length.ensures, data-most c.before.before.ciphertext-length.result, ciphertext-most c.before.before.before.args.p c.before.before.before.requires) }
+add-result c = record { fits = omega (arith, c.before.encrypted-data-length.ensures, c.before.before.ciphertext-length.ensures, data_most c.before.before.ciphertext-length.result, ciphertext_most c.before.before.before.args.p c.before.before.before.requires) }
 
 add-result-2 : tie.Need-overflow-add-result-2
-add-result-2 c = record { fits = omega (arith, c.before.encrypted-data-length.ensures, c.before.before.ciphertext-length.ensures, data-most c.before.before.ciphertext-length.result, ciphertext-most c.before.before.before.args.p c.before.before.before.requires) }
+add-result-2 c = record { fits = omega (arith, c.before.encrypted-data-length.ensures, c.before.before.ciphertext-length.ensures, data_most c.before.before.ciphertext-length.result, ciphertext_most c.before.before.before.args.p c.before.before.before.requires) }
 
 returns : tie.Need-returns
-unfolding commandLength
-returns c = rw (c.if1.true, c.before.encrypted-data-length.ensures ∙ ap encryptedDataLength c.before.before.ciphertext-length.ensures)
+unfolding command_length
+returns c = rw (c.if1.true, c.before.encrypted-data-length.ensures ∙ ap encrypted_data_length c.before.before.ciphertext-length.ensures)
 
 add-result-3 : tie.Need-overflow-add-result-3
-add-result-3 c = record { fits = omega (arith, c.before.encrypted-data-length.ensures, c.before.before.ciphertext-length.ensures, data-most c.before.before.ciphertext-length.result, ciphertext-most c.before.before.before.args.p c.before.before.before.requires) }
+add-result-3 c = record { fits = omega (arith, c.before.encrypted-data-length.ensures, c.before.before.ciphertext-length.ensures, data_most c.before.before.ciphertext-length.result, ciphertext_most c.before.before.before.args.p c.before.before.before.requires) }
 
 returns-2 : tie.Need-returns-2
-unfolding commandLength
-returns-2 c = rw c.if1.false (omega (arith, c.before.encrypted-data-length.ensures ∙ ap encryptedDataLength c.before.before.ciphertext-length.ensures))
+unfolding command_length
+returns-2 c = rw c.if1.false (omega (arith, c.before.encrypted-data-length.ensures ∙ ap encrypted_data_length c.before.before.ciphertext-length.ensures))
 
 pub command-length-spec : {M : Type 1} → statement M
 command-length-spec =

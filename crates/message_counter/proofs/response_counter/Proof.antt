@@ -6,13 +6,13 @@ use mathlib.Core.Path.{sym, ap, ◌∙◌}
 use mathlib.Core.List.{List, ◌∷◌}
 use Prim.Native.Nat.{ℕ}
 use lib.ListN.{drop, set}
-use Rattle.message_counter.specs.Counter.{responseCounter}
-use Rattle.message_counter.proofs.CounterBytes.{counter-bytes}
+use Rattle.message_counter.specs.Counter.{response_counter}
+use Rattle.message_counter.proofs.CounterBytes.{counter_bytes}
 
 returns : tie.Need-returns
-unfolding responseCounter
+unfolding response_counter
 returns c =
-    let e = counter-bytes c.before.args.i c.before.requires in
+    let e = counter_bytes c.before.args.i c.before.requires in
     ap (λ (l : List ℕ). set l 0 0x80) (c.command-counter.ensures ∙ e) ∙ sym (ap (λ (l : List ℕ). 0x80 ∷ drop 1 l) e)
 
 pub response-counter-spec : {M : Type 1} → statement M

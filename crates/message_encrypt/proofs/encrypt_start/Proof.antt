@@ -6,8 +6,8 @@ use native.Mathlib.Omega.{arith}
 use mathlib.Core.Path.{sym}
 use lib.Seq.{length-take-le}
 use Rattle.aes.specs.Aes.{ciph}
-use Rattle.mode_cbc.specs.Cbc.{cbcEncrypt}
-use Rattle.message_encrypt.proofs.StartChanged.{start-changed}
+use Rattle.mode_cbc.specs.Cbc.{cbc_encrypt}
+use Rattle.message_encrypt.proofs.StartChanged.{start_changed}
 
 slice-aggregate-encrypt : tie.Need-slice-aggregate-encrypt
 slice-aggregate-encrypt c = sym (length-take-le c.before.before.args.n c.before.before.args.text.now c.before.before.requires.1)
@@ -16,7 +16,7 @@ returns : tie.Need-returns
 returns c =
     let a = c.before.before.before.before.before.args in
     let h = c.before.before.before.before.before.requires in
-    start-changed (cbcEncrypt (ciph a.size a.w.now) a.iv) a.text.now _ a.n h.0 h.1 c.before.before.encrypt.ensures.1 (omega (arith, c.before.before.encrypt.auto, length-take-le a.n a.text.now h.1))
+    start_changed (cbc_encrypt (ciph a.size a.w.now) a.iv) a.text.now _ a.n h.0 h.1 c.before.before.encrypt.ensures.1 (omega (arith, c.before.before.encrypt.auto, length-take-le a.n a.text.now h.1))
 
 pub encrypt-start-spec : {M : Type 1} → statement M
 encrypt-start-spec =

@@ -3,21 +3,21 @@ use borrow.Author.Rules.{rules}
 use Rattle.message_encrypt.proofs.put_padded.Statement.{statement}
 use Rattle.message_encrypt.proofs.put_padded.Tie as tie
 use native.Mathlib.Omega.{arith}
-use Rattle.octets.proofs.Writing.{wrote_then, wrote-length}
-use Rattle.field_padding.specs.Padding.{pad, paddedLength}
-use Rattle.field_padding.proofs.Lengths.{length-padding}
+use Rattle.octets.proofs.Writing.{wrote_then, wrote_length}
+use Rattle.field_padding.specs.Padding.{pad, padded_length}
+use Rattle.field_padding.proofs.Lengths.{length_padding}
 use lib.ListN.{length}
 
 put-bytes-requires : tie.Need-put-bytes-requires
-unfolding paddedLength
+unfolding padded_length
 put-bytes-requires c κs = omega (arith, c.before.before.before.requires)
 
 put-padding-requires : tie.Need-put-padding-requires
-unfolding paddedLength
+unfolding padded_length
 put-padding-requires c κs =
     let w = c.before.before.before.put-bytes.ensures in
     let h = c.before.before.before.before.before.before.before.requires in
-    omega (arith, h, w.end, wrote-length (omega (arith, h)) w, length-padding (length c.before.before.before.before.before.before.before.args.«data».now))
+    omega (arith, h, w.end, wrote_length (omega (arith, h)) w, length_padding (length c.before.before.before.before.before.before.before.args.«data».now))
 
 returns : tie.Need-returns
 unfolding pad

@@ -6,7 +6,7 @@ use mathlib.Core.Path.{◌≡◌, sym, ◌∙◌}
 use native.Mathlib.Omega.{arith}
 use lib.ListN.{length, length-take}
 use lib.Seq.{length-take-le}
-use Rattle.octets.proofs.Writing.{wrote-all, over-full}
+use Rattle.octets.proofs.Writing.{wrote_all, over_full}
 
 slice-aggregate-put-bytes-2 : tie.Need-slice-aggregate-put-bytes-2
 slice-aggregate-put-bytes-2 c = let n : length c.before.before.args.t1 ≡ 16 = search (rules, c.before.before.well-formed) in sym (length-take-le _ c.before.before.args.t1 (omega (arith, n)))
@@ -17,7 +17,7 @@ put-bytes-requires c κs = let n : length c.before.before.args.t1 ≡ 16 = searc
 returns : tie.Need-returns
 returns c =
     let n : length c.before.before.before.before.args.t1 ≡ 16 = search (rules, c.before.before.before.before.well-formed) in
-    wrote-all c.before.put-bytes.ensures ∙ over-full _ _ (simp length-take (omega (arith, n)))
+    wrote_all c.before.put-bytes.ensures ∙ over_full _ _ (simp length-take (omega (arith, n)))
 
 pub truncated-spec : {M : Type 1} → statement M
 truncated-spec =

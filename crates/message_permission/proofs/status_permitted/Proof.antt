@@ -2,10 +2,10 @@
 use Rattle.message_permission.proofs.status_permitted.Statement.{statement}
 use Rattle.message_permission.proofs.status_permitted.Tie as tie
 use mathlib.Core.Path.{refl}
-use Rattle.message_permission.specs.Permission.{statusPermitted}
+use Rattle.message_permission.specs.Permission.{status_permitted}
 
 returns : tie.Need-returns
-unfolding statusPermitted
+unfolding status_permitted
 returns c = refl
 
 pub status-permitted-spec : {M : Type 1} → statement M

@@ -5,7 +5,7 @@ use Rattle.message_result.proofs.refused_wrap.Tie as tie
 use Rattle.message_result.specs.declared.WrapAnswer.TheVariants.{Refused}
 
 returns : tie.Need-returns
-returns c = λ i. record { answer = Refused c.before.args.refusal; session = c.after-refusal.ensures i }
+returns c = λ i. record { answer = Refused c.before.args.refusal; session = c.after_refusal_lem.ensures i }
 
 pub refused-wrap-spec : {M : Type 1} → statement M
 refused-wrap-spec = tie.close (tie.spec (λ c κs. search rules) returns)

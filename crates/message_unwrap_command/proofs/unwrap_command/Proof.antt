@@ -3,22 +3,22 @@ use borrow.Author.Rules.{rules}
 use borrow.Author.Tests.{not-true, not-false}
 use mathlib.Core.Path.{sym, ◌∙◌}
 use Rattle.octets.proofs.Tests.{outcome}
-use Rattle.session_rules.proofs.KeepsTheRules.{broken-not-served}
-use Rattle.message_answer.proofs.Required.{first-refused}
-use Rattle.message_protocol.specs.Command.{unwrapCommandChecks, cardUnwraps}
-use Rattle.message_result.specs.Results.{commandResult}
-use Rattle.message_result.proofs.StageEnds.{stage-refused}
-use Rattle.message_unwrap_command.specs.UnwrapCommand.{payloadOf}
+use Rattle.session_rules.proofs.KeepsTheRules.{broken_not_served}
+use Rattle.message_answer.proofs.Required.{first_refused}
+use Rattle.message_protocol.specs.Command.{unwrap_command_checks, cardUnwraps}
+use Rattle.message_result.specs.Results.{command_result}
+use Rattle.message_result.proofs.StageEnds.{stage_refused}
+use Rattle.message_unwrap_command.specs.UnwrapCommand.{payload_of}
 use Rattle.message_unwrap_command.proofs.unwrap_command.Statement.{statement}
 use Rattle.message_unwrap_command.proofs.unwrap_command.Tie as tie
 
 returns : tie.Need-returns
-unfolding cardUnwraps unwrapCommandChecks
+unfolding cardUnwraps unwrap_command_checks
 returns c =
     let tested = c.before.before in
     let a = tested.before.before.before.args in
-    stage-refused a.session commandResult payloadOf a.out.now
-    (first-refused _ _ _ _ (broken-not-served a.session (outcome _ tested.valid.ensures (not-true _ c.before.if1.true))))
+    stage_refused a.session command_result payload_of a.out.now
+    (first_refused _ _ _ _ (broken_not_served a.session (outcome _ tested.valid.ensures (not-true _ c.before.if1.true))))
     c.refused-command.ensures
 
 unwrap-command-with-valid-session-requires : tie.Need-unwrap-command-with-valid-session-requires

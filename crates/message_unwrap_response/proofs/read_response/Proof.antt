@@ -3,14 +3,14 @@ use borrow.Author.Rules.{rules}
 use mathlib.Core.Path.{sym, ap, ◌∙◌}
 use lib.ListN.{length}
 use Rattle.field_expected.specs.declared.Wanted.{Wanted}
-use Rattle.field_read.specs.Field.{readField}
+use Rattle.field_read.specs.Field.{read_field}
 use Rattle.field_laws.proofs.AcceptedRules.{conforms}
 use Rattle.message_answer.specs.Message.{status}
-use Rattle.message_permission.specs.Permission.{responseWanted}
-use Rattle.message_result.specs.Results.{responseResult}
-use Rattle.message_result.proofs.StageEnds.{stage-goes-on, stage-refused}
-use Rattle.message_verify.proofs.Stages.{when-read, when-malformed, when-missing}
-use Rattle.message_unwrap_response.specs.UnwrapResponse.{openObjects, payloadOf}
+use Rattle.message_permission.specs.Permission.{response_wanted}
+use Rattle.message_result.specs.Results.{response_result}
+use Rattle.message_result.proofs.StageEnds.{stage_goes_on, stage_refused}
+use Rattle.message_verify.proofs.Stages.{when_read, when_malformed, when_missing}
+use Rattle.message_unwrap_response.specs.UnwrapResponse.{open_objects, payload_of}
 use Rattle.message_unwrap_response.proofs.read_response.Statement.{statement}
 use Rattle.message_unwrap_response.proofs.read_response.Tie as tie
 
@@ -18,9 +18,9 @@ open-objects-requires : tie.Need-open-objects-requires
 open-objects-requires c κs =
     let read = c.before.before.before.before in
     let start = read.before.before.before.before in
-    let is_read = read.read-field.ensures ∙ ap (λ (w : Wanted). readField w start.args.field.now) read.before.response-wanted.ensures in (
+    let is_read = read.read-field.ensures ∙ ap (λ (w : Wanted). read_field w start.args.field.now) read.before.response-wanted.ensures in (
       start.requires,
-      conforms (responseWanted (status start.args.sw1 start.args.sw2)) start.args.field.now _
+      conforms (response_wanted (status start.args.sw1 start.args.sw2)) start.args.field.now _
           (sym is_read ∙ c.before.before.read.given.1),
     )
 
@@ -29,25 +29,25 @@ returns c =
     let opened = c.before.before in
     let read = opened.before.before.before.before.before in
     let a = read.before.before.before.before.args in
-    let is_read = read.read-field.ensures ∙ ap (λ (w : Wanted). readField w a.field.now) read.before.response-wanted.ensures in
-    stage-goes-on a.session responseResult payloadOf a.out.now
-    (when-read _ _ _ (sym is_read ∙ opened.before.before.before.read.given.1)) opened.open-objects.ensures
+    let is_read = read.read-field.ensures ∙ ap (λ (w : Wanted). read_field w a.field.now) read.before.response-wanted.ensures in
+    stage_goes_on a.session response_result payload_of a.out.now
+    (when_read _ _ _ (sym is_read ∙ opened.before.before.before.read.given.1)) opened.open-objects.ensures
 
 returns-2 : tie.Need-returns-2
 returns-2 c =
     let read = c.before.before.before in
     let a = read.before.before.before.before.args in
-    let is_read = read.read-field.ensures ∙ ap (λ (w : Wanted). readField w a.field.now) read.before.response-wanted.ensures in
-    stage-refused a.session responseResult payloadOf a.out.now
-    (when-malformed _ _ _ (sym is_read ∙ c.before.enum_told.given.1)) c.refused-response.ensures
+    let is_read = read.read-field.ensures ∙ ap (λ (w : Wanted). read_field w a.field.now) read.before.response-wanted.ensures in
+    stage_refused a.session response_result payload_of a.out.now
+    (when_malformed _ _ _ (sym is_read ∙ c.before.enum_told.given.1)) c.refused-response.ensures
 
 returns-3 : tie.Need-returns-3
 returns-3 c =
     let read = c.before.before.before in
     let a = read.before.before.before.before.args in
-    let is_read = read.read-field.ensures ∙ ap (λ (w : Wanted). readField w a.field.now) read.before.response-wanted.ensures in
-    stage-refused a.session responseResult payloadOf a.out.now
-    (when-missing _ _ _ _ (sym is_read ∙ c.before.enum-told2.given.1)) c.refused-response2.ensures
+    let is_read = read.read-field.ensures ∙ ap (λ (w : Wanted). read_field w a.field.now) read.before.response-wanted.ensures in
+    stage_refused a.session response_result payload_of a.out.now
+    (when_missing _ _ _ _ (sym is_read ∙ c.before.enum-told2.given.1)) c.refused-response2.ensures
 
 pub read-response-spec : {M : Type 1} → statement M
 read-response-spec =

@@ -3,22 +3,22 @@ use borrow.Author.Rules.{rules}
 use borrow.Author.Tests.{not-true, not-false}
 use mathlib.Core.Path.{sym, ◌∙◌}
 use Rattle.octets.proofs.Tests.{outcome}
-use Rattle.session_rules.proofs.KeepsTheRules.{broken-not-served}
-use Rattle.message_answer.proofs.Required.{first-refused}
-use Rattle.message_protocol.specs.Response.{unwrapResponseChecks, hostUnwraps}
-use Rattle.message_result.specs.Results.{responseResult}
-use Rattle.message_result.proofs.StageEnds.{stage-refused}
-use Rattle.message_unwrap_response.specs.UnwrapResponse.{payloadOf}
+use Rattle.session_rules.proofs.KeepsTheRules.{broken_not_served}
+use Rattle.message_answer.proofs.Required.{first_refused}
+use Rattle.message_protocol.specs.Response.{unwrap_response_checks, hostUnwraps}
+use Rattle.message_result.specs.Results.{response_result}
+use Rattle.message_result.proofs.StageEnds.{stage_refused}
+use Rattle.message_unwrap_response.specs.UnwrapResponse.{payload_of}
 use Rattle.message_unwrap_response.proofs.unwrap_response.Statement.{statement}
 use Rattle.message_unwrap_response.proofs.unwrap_response.Tie as tie
 
 returns : tie.Need-returns
-unfolding hostUnwraps unwrapResponseChecks
+unfolding hostUnwraps unwrap_response_checks
 returns c =
     let tested = c.before.before in
     let a = tested.before.before.before.args in
-    stage-refused a.session responseResult payloadOf a.out.now
-    (first-refused _ _ _ _ (broken-not-served a.session (outcome _ tested.valid.ensures (not-true _ c.before.if1.true))))
+    stage_refused a.session response_result payload_of a.out.now
+    (first_refused _ _ _ _ (broken_not_served a.session (outcome _ tested.valid.ensures (not-true _ c.before.if1.true))))
     c.refused-response.ensures
 
 unwrap-response-with-valid-session-requires : tie.Need-unwrap-response-with-valid-session-requires

@@ -1,19 +1,19 @@
 -- `unwrap_response_with_valid_session` meets its contract: refused by a test, or read.
 use borrow.Author.Rules.{rules}
 use mathlib.Core.Path.{sym, ◌∙◌}
-use Rattle.session_rules.proofs.KeepsTheRules.{valid-count}
+use Rattle.session_rules.proofs.KeepsTheRules.{valid_count}
 use Rattle.message_protocol.specs.Response.{hostUnwraps}
-use Rattle.message_result.specs.Results.{responseResult}
-use Rattle.message_result.proofs.Checks.{tests-passed, test-refused}
-use Rattle.message_result.proofs.StageEnds.{stage-goes-on, stage-refused}
-use Rattle.message_unwrap_response.specs.UnwrapResponse.{payloadOf}
+use Rattle.message_result.specs.Results.{response_result}
+use Rattle.message_result.proofs.Checks.{tests_passed, test_refused}
+use Rattle.message_result.proofs.StageEnds.{stage_goes_on, stage_refused}
+use Rattle.message_unwrap_response.specs.UnwrapResponse.{payload_of}
 use Rattle.message_unwrap_response.proofs.unwrap_response_with_valid_session.Statement.{statement}
 use Rattle.message_unwrap_response.proofs.unwrap_response_with_valid_session.Tie as tie
 
 read-response-requires : tie.Need-read-response-requires
 read-response-requires c κs =
     let start = c.before.before.before.before.before.before in
-    valid-count start.args.session start.requires
+    valid_count start.args.session start.requires
 
 returns : tie.Need-returns
 unfolding hostUnwraps
@@ -21,16 +21,16 @@ returns c =
     let read = c.before.before in
     let tested = read.before.before.before.before in
     let a = tested.before.before.before.args in
-    stage-goes-on a.session responseResult payloadOf a.out.now
-    (tests-passed _ _ (sym tested.unwrap-response-checks.ensures ∙ read.before.before.enum_told.given.1)) read.read-response.ensures
+    stage_goes_on a.session response_result payload_of a.out.now
+    (tests_passed _ _ (sym tested.unwrap-response-checks.ensures ∙ read.before.before.enum_told.given.1)) read.read_response_lem.ensures
 
 returns-2 : tie.Need-returns-2
 unfolding hostUnwraps
 returns-2 c =
     let tested = c.before.before.before.before in
     let a = tested.before.before.before.args in
-    stage-refused a.session responseResult payloadOf a.out.now
-    (test-refused _ _ (sym tested.unwrap-response-checks.ensures ∙ c.before.before.checked.given.1)) c.refused-response.ensures
+    stage_refused a.session response_result payload_of a.out.now
+    (test_refused _ _ (sym tested.unwrap-response-checks.ensures ∙ c.before.before.checked.given.1)) c.refused-response.ensures
 
 pub unwrap-response-with-valid-session-spec : {M : Type 1} → statement M
 unwrap-response-with-valid-session-spec =

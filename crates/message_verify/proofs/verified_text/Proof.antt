@@ -3,24 +3,24 @@ use borrow.Author.Rules.{rules}
 use borrow.Author.Tests.{not-true, not-false}
 use mathlib.Core.Path.{ap, ◌∙◌}
 use Rattle.octets.proofs.Tests.{outcome}
-use Rattle.session_suite.specs.StoredKeys.{keyIn}
+use Rattle.session_suite.specs.StoredKeys.{key_in}
 use Rattle.message_mac.specs.Same.{same}
 use Rattle.message_verify.specs.VerifiedText.{received}
-use Rattle.message_verify.proofs.Stages.{no_room, wrong-mac, wrong-padding, data-verified}
+use Rattle.message_verify.proofs.Stages.{no_room, wrong_mac, wrong_padding, data_verified}
 use Rattle.message_verify.proofs.verified_text.Statement.{statement}
 use Rattle.message_verify.proofs.verified_text.Tie as tie
 
 returns : tie.Need-returns
 returns c =
     let a = c.before.before.before.before.args in
-    no_room (keyIn a.suite a.sk-enc) a.counter a.full (received a.mac.now a.ciphertext.now) a.out.now c.if1.true
+    no_room (key_in a.suite a.sk-enc) a.counter a.full (received a.mac.now a.ciphertext.now) a.out.now c.if1.true
 
 returns-2 : tie.Need-returns-2
 returns-2 c =
     let compared = c.before in
     let fits = c.before.before.before in
     let a = fits.before.before.before.before.args in
-    wrong-mac (keyIn a.suite a.sk-enc) a.counter a.full (received a.mac.now a.ciphertext.now) a.out.now fits.if1.false
+    wrong_mac (key_in a.suite a.sk-enc) a.counter a.full (received a.mac.now a.ciphertext.now) a.out.now fits.if1.false
     (outcome _ (compared.mac-matches.ensures ∙ ap (same a.mac.now) compared.before.truncated.ensures) (not-true _ c.if2.true))
 
 decrypt-text-requires : tie.Need-decrypt-text-requires
@@ -35,7 +35,7 @@ returns-3 c =
     let matches = c.before.before.before.before.before.before in
     let fits = c.before.before.before.before.before.before.before.before.before in
     let a = fits.before.before.before.before.args in
-    wrong-padding (keyIn a.suite a.sk-enc) a.counter a.full (received a.mac.now a.ciphertext.now) a.out.now fits.if1.false
+    wrong_padding (key_in a.suite a.sk-enc) a.counter a.full (received a.mac.now a.ciphertext.now) a.out.now fits.if1.false
     (outcome _ (matches.before.mac-matches.ensures ∙ ap (same a.mac.now) matches.before.before.truncated.ensures)
     (not-false _ matches.if2.false))
     _ _ decrypted.decrypt-text.ensures.0 decrypted.decrypt-text.ensures.1 c.enum_told.given.1
@@ -46,7 +46,7 @@ returns-4 c =
     let matches = c.before.before.before.before.before.before.before in
     let fits = c.before.before.before.before.before.before.before.before.before.before in
     let a = fits.before.before.before.before.args in
-    data-verified (keyIn a.suite a.sk-enc) a.counter a.full (received a.mac.now a.ciphertext.now) a.out.now fits.if1.false
+    data_verified (key_in a.suite a.sk-enc) a.counter a.full (received a.mac.now a.ciphertext.now) a.out.now fits.if1.false
     (outcome _ (matches.before.mac-matches.ensures ∙ ap (same a.mac.now) matches.before.before.truncated.ensures)
     (not-false _ matches.if2.false))
     _ _ decrypted.decrypt-text.ensures.0 decrypted.decrypt-text.ensures.1 _ c.before.text.given.1

@@ -8,11 +8,11 @@ use Rattle.octets.specs.Bytes.{Bytes}
 use Rattle.message_answer.specs.Answer.{concluded, buffer}
 use Rattle.message_answer.specs.Message.{header}
 use Rattle.message_protocol.specs.Command.{hostWraps}
-use Rattle.message_protocol.proofs.CallCases.{may-wrap-command}
-use Rattle.message_protocol.proofs.KeysTyped.{keys-typed}
-use Rattle.message_result.specs.Results.{wrapResult}
-use Rattle.message_result.proofs.Checks.{was-passed, tests-passed, test-refused}
-use Rattle.message_result.proofs.StageEnds.{stage-goes-on, stage-refused}
+use Rattle.message_protocol.proofs.CallCases.{may_wrap_command}
+use Rattle.message_protocol.proofs.KeysTyped.{keys_typed}
+use Rattle.message_result.specs.Results.{wrap_result}
+use Rattle.message_result.proofs.Checks.{was_passed, tests_passed, test_refused}
+use Rattle.message_result.proofs.StageEnds.{stage_goes_on, stage_refused}
 use Rattle.message_wrap_command.proofs.wrap_command_with_valid_session.Statement.{statement}
 use Rattle.message_wrap_command.proofs.wrap_command_with_valid_session.Tie as tie
 
@@ -21,8 +21,8 @@ write-command-requires c κs =
     let tested = c.before.before.before in
     let start = tested.before.before.before in
     let a = start.args in
-    let may = may-wrap-command a.session (header a.ins a.p1 a.p2 a.le) (length a.«data».now) (length a.out.now) tt
-    (was-passed _ (sym tested.wrap-command-checks.ensures ∙ c.before.enum_told.given.1)) in
+    let may = may_wrap_command a.session (header a.ins a.p1 a.p2 a.le) (length a.«data».now) (length a.out.now) tt
+    (was_passed _ (sym tested.wrap-command-checks.ensures ∙ c.before.enum_told.given.1)) in
     (may.counted, may.short, may.fits)
 
 returns : tie.Need-returns
@@ -30,15 +30,15 @@ unfolding hostWraps concluded buffer
 returns c =
     let sized = c.before.before.before.before.before.before.before.before.before.well-formed.0 in
     let session = c.before.before.before.before.before.before.before.before.before.args.session in
-    let keyed = keys-typed session (search (rules, sized)) (search (rules, sized)) (search (rules, sized))
+    let keyed = keys_typed session (search (rules, sized)) (search (rules, sized)) (search (rules, sized))
     (λ i. let f : Fits w8 (get_or session.sk_enc i 0) = search (rules, sized) in f.fits)
     (λ i. let f : Fits w8 (get_or session.sk_mac i 0) = search (rules, sized) in f.fits)
     (λ i. let f : Fits w8 (get_or session.sk_rmac i 0) = search (rules, sized) in f.fits) in
     let written = c.before.before in
     let tested = written.before.before.before.before in
     let a = tested.before.before.before.args in
-    let ends = stage-goes-on a.session wrapResult (λ (field : Bytes). field) a.out.now
-    (tests-passed _ _ (sym tested.wrap-command-checks.ensures ∙ written.before.before.enum_told.given.1)) written.write-command.ensures in
+    let ends = stage_goes_on a.session wrap_result (λ (field : Bytes). field) a.out.now
+    (tests_passed _ _ (sym tested.wrap-command-checks.ensures ∙ written.before.before.enum_told.given.1)) written.write-command.ensures in
     (ends.0, (ends.1, (λ i l. (tested.before.before.shared-slice-known.given i).fits, keyed)))
 
 returns-2 : tie.Need-returns-2
@@ -46,14 +46,14 @@ unfolding hostWraps
 returns-2 c =
     let sized = c.before.before.before.before.before.before.before.well-formed.0 in
     let session = c.before.before.before.before.before.before.before.args.session in
-    let keyed = keys-typed session (search (rules, sized)) (search (rules, sized)) (search (rules, sized))
+    let keyed = keys_typed session (search (rules, sized)) (search (rules, sized)) (search (rules, sized))
     (λ i. let f : Fits w8 (get_or session.sk_enc i 0) = search (rules, sized) in f.fits)
     (λ i. let f : Fits w8 (get_or session.sk_mac i 0) = search (rules, sized) in f.fits)
     (λ i. let f : Fits w8 (get_or session.sk_rmac i 0) = search (rules, sized) in f.fits) in
     let tested = c.before.before.before.before in
     let a = tested.before.before.before.args in
-    let ends = stage-refused a.session wrapResult (λ (field : Bytes). field) a.out.now
-    (test-refused _ _ (sym tested.wrap-command-checks.ensures ∙ c.before.before.checked.given.1)) c.refused-wrap.ensures in
+    let ends = stage_refused a.session wrap_result (λ (field : Bytes). field) a.out.now
+    (test_refused _ _ (sym tested.wrap-command-checks.ensures ∙ c.before.before.checked.given.1)) c.refused-wrap.ensures in
     (ends.0, (ends.1, (λ i l. (tested.before.before.shared-slice-known.given i).fits, keyed)))
 
 pub wrap-command-with-valid-session-spec : {M : Type 1} → statement M

@@ -5,15 +5,15 @@ use mir.Syntax.{w8}
 use mir.Val.{Fits}
 use lib.ListN.{length, get_or}
 use Rattle.octets.specs.Bytes.{Bytes}
-use Rattle.session_rules.proofs.KeepsTheRules.{valid-count}
+use Rattle.session_rules.proofs.KeepsTheRules.{valid_count}
 use Rattle.message_answer.specs.Answer.{concluded, buffer}
 use Rattle.message_answer.specs.Message.{status}
 use Rattle.message_protocol.specs.Response.{cardWraps}
-use Rattle.message_protocol.proofs.CallCases.{may-wrap-response}
-use Rattle.message_protocol.proofs.KeysTyped.{keys-typed}
-use Rattle.message_result.specs.Results.{wrapResult}
-use Rattle.message_result.proofs.Checks.{was-passed, tests-passed, test-refused}
-use Rattle.message_result.proofs.StageEnds.{stage-goes-on, stage-refused}
+use Rattle.message_protocol.proofs.CallCases.{may_wrap_response}
+use Rattle.message_protocol.proofs.KeysTyped.{keys_typed}
+use Rattle.message_result.specs.Results.{wrap_result}
+use Rattle.message_result.proofs.Checks.{was_passed, tests_passed, test_refused}
+use Rattle.message_result.proofs.StageEnds.{stage_goes_on, stage_refused}
 use Rattle.message_wrap_response.proofs.wrap_response_with_valid_session.Statement.{statement}
 use Rattle.message_wrap_response.proofs.wrap_response_with_valid_session.Tie as tie
 
@@ -22,24 +22,24 @@ write-response-requires c κs =
     let tested = c.before.before.before in
     let start = tested.before.before.before in
     let a = start.args in
-    let may = may-wrap-response a.session (status a.sw1 a.sw2) (length a.«data».now) (length a.out.now) tt
-    (was-passed _ (sym tested.wrap-response-checks.ensures ∙ c.before.enum_told.given.1)) in
-    (valid-count a.session start.requires, may.short, may.fits)
+    let may = may_wrap_response a.session (status a.sw1 a.sw2) (length a.«data».now) (length a.out.now) tt
+    (was_passed _ (sym tested.wrap-response-checks.ensures ∙ c.before.enum_told.given.1)) in
+    (valid_count a.session start.requires, may.short, may.fits)
 
 returns : tie.Need-returns
 unfolding cardWraps concluded buffer
 returns c =
     let sized = c.before.before.before.before.before.before.before.before.before.well-formed.0 in
     let session = c.before.before.before.before.before.before.before.before.before.args.session in
-    let keyed = keys-typed session (search (rules, sized)) (search (rules, sized)) (search (rules, sized))
+    let keyed = keys_typed session (search (rules, sized)) (search (rules, sized)) (search (rules, sized))
     (λ i. let f : Fits w8 (get_or session.sk_enc i 0) = search (rules, sized) in f.fits)
     (λ i. let f : Fits w8 (get_or session.sk_mac i 0) = search (rules, sized) in f.fits)
     (λ i. let f : Fits w8 (get_or session.sk_rmac i 0) = search (rules, sized) in f.fits) in
     let written = c.before.before in
     let tested = written.before.before.before.before in
     let a = tested.before.before.before.args in
-    let ends = stage-goes-on a.session wrapResult (λ (field : Bytes). field) a.out.now
-    (tests-passed _ _ (sym tested.wrap-response-checks.ensures ∙ written.before.before.enum_told.given.1)) written.write-response.ensures in
+    let ends = stage_goes_on a.session wrap_result (λ (field : Bytes). field) a.out.now
+    (tests_passed _ _ (sym tested.wrap-response-checks.ensures ∙ written.before.before.enum_told.given.1)) written.write-response.ensures in
     (ends.0, (ends.1, (λ i l. (tested.before.before.shared-slice-known.given i).fits, keyed)))
 
 returns-2 : tie.Need-returns-2
@@ -47,14 +47,14 @@ unfolding cardWraps
 returns-2 c =
     let sized = c.before.before.before.before.before.before.before.well-formed.0 in
     let session = c.before.before.before.before.before.before.before.args.session in
-    let keyed = keys-typed session (search (rules, sized)) (search (rules, sized)) (search (rules, sized))
+    let keyed = keys_typed session (search (rules, sized)) (search (rules, sized)) (search (rules, sized))
     (λ i. let f : Fits w8 (get_or session.sk_enc i 0) = search (rules, sized) in f.fits)
     (λ i. let f : Fits w8 (get_or session.sk_mac i 0) = search (rules, sized) in f.fits)
     (λ i. let f : Fits w8 (get_or session.sk_rmac i 0) = search (rules, sized) in f.fits) in
     let tested = c.before.before.before.before in
     let a = tested.before.before.before.args in
-    let ends = stage-refused a.session wrapResult (λ (field : Bytes). field) a.out.now
-    (test-refused _ _ (sym tested.wrap-response-checks.ensures ∙ c.before.before.checked.given.1)) c.refused-wrap.ensures in
+    let ends = stage_refused a.session wrap_result (λ (field : Bytes). field) a.out.now
+    (test_refused _ _ (sym tested.wrap-response-checks.ensures ∙ c.before.before.checked.given.1)) c.refused-wrap.ensures in
     (ends.0, (ends.1, (λ i l. (tested.before.before.shared-slice-known.given i).fits, keyed)))
 
 pub wrap-response-with-valid-session-spec : {M : Type 1} → statement M

@@ -1,16 +1,16 @@
 -- `encrypt` meets its contract: one case for whole blocks, and one for all else.
 use borrow.Author.Rules.{rules}
 use borrow.Author.Tests.{eq-eqb, ne_eqb}
-use Rattle.mode_cbc.specs.Whole.{outcome, ifWhole}
+use Rattle.mode_cbc.specs.Whole.{outcome, if_whole}
 use Rattle.mode_cbc.proofs.encrypt.Statement.{statement}
 use Rattle.mode_cbc.proofs.encrypt.Tie as tie
 
 returns : tie.Need-returns
-unfolding outcome ifWhole
+unfolding outcome if_whole
 returns c = (simp (ne_eqb _ _ c.if1.true), simp (ne_eqb _ _ c.if1.true))
 
 returns-2 : tie.Need-returns-2
-unfolding outcome ifWhole
+unfolding outcome if_whole
 returns-2 c =
     (simp (eq-eqb _ _ c.before.before.before.before.if1.false), simp (eq-eqb _ _ c.before.before.before.before.if1.false) c.before.before.encrypt-blocks.ensures)
 

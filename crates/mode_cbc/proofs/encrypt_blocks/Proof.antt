@@ -4,24 +4,24 @@ use mathlib.Core.Path.{◌≡◌, ◌∙◌, sym}
 use Prim.Native.Nat.{◌≤◌, ◌-◌, ◌/◌}
 use native.Mathlib.Omega.{arith}
 use lib.ListN.{length}
-use Rattle.octets.proofs.Writing.{wrote-length}
+use Rattle.octets.proofs.Writing.{wrote_length}
 use Rattle.aes.specs.Aes.{ciph}
-use Rattle.mode_cbc.specs.Cbc.{encryptBlocks, cbcEncrypt}
-use Rattle.mode_cbc.proofs.BlockByBlock.{pending, encrypt-start, encrypt-more, encrypt-end}
+use Rattle.mode_cbc.specs.Cbc.{encrypt_blocks, cbc_encrypt}
+use Rattle.mode_cbc.proofs.BlockByBlock.{pending, encrypt_start, encrypt_more, encrypt_end}
 use Rattle.mode_cbc.proofs.encrypt_blocks.Statement.{statement}
 use Rattle.mode_cbc.proofs.encrypt_blocks.Tie as tie
 
 abbrev invariant-loop : tie.invariant-loop
 invariant-loop size w data₀ n last₀ i₀ «data» last i =
     (i ≤ n) × (length «data» ≡ length data₀) × (length last ≡ 16)
-    × (pending (encryptBlocks (ciph size w)) n last i «data» ≡ cbcEncrypt (ciph size w) last₀ data₀)
+    × (pending (encrypt_blocks (ciph size w)) n last i «data» ≡ cbc_encrypt (ciph size w) last₀ data₀)
 
 abbrev decreases-loop : tie.decreases-loop
 decreases-loop size w data₀ n last₀ i₀ «data» last i = n - i
 
 loop-holds : tie.Need-loop-init invariant-loop decreases-loop
 loop-holds c =
-    let a = c.before.args in (omega arith, search rules, search rules, encrypt-start (ciph a.size a.w.now) a.iv a.«data».now)
+    let a = c.before.args in (omega arith, search rules, search rules, encrypt_start (ciph a.size a.w.now) a.iv a.«data».now)
 
 block-at-requires : tie.Need-block-at-requires invariant-loop decreases-loop
 block-at-requires c κs = omega (arith, c.before.before.loop.invariant.1)
@@ -36,9 +36,9 @@ loop-again c =
     let L = c.before.before.before.before.before.before.before.before.before.before.loop in
     let block : length c.before.before.before.before.before.encrypt-block.result ≡ 16 = search rules in (
       omega arith,
-      wrote-length (omega (arith, L.invariant.1, block)) c.before.before.put-bytes.ensures ∙ L.invariant.1,
+      wrote_length (omega (arith, L.invariant.1, block)) c.before.before.put-bytes.ensures ∙ L.invariant.1,
       block,
-      encrypt-more (ciph a.size a.w.now) (length a.«data».now / 16) L.i L.last L.«data» c.before.before.before.before.before.before.before.before.before.loop-test.true
+      encrypt_more (ciph a.size a.w.now) (length a.«data».now / 16) L.i L.last L.«data» c.before.before.before.before.before.before.before.before.before.loop-test.true
           (omega (arith, L.invariant.1)) c.before.before.before.before.before.before.before.block_at.ensures c.before.before.before.before.before.before.xor_block.ensures c.before.before.before.before.before.encrypt-block.ensures block
           c.before.before.put-bytes.ensures.bytes
           ∙ L.invariant.3,
@@ -51,7 +51,7 @@ returns : tie.Need-returns invariant-loop decreases-loop
 returns c =
     let a = c.before.before.before.args in
     let L = c.before.loop in
-    sym (encrypt-end (ciph a.size a.w.now) (length a.«data».now / 16) L.i L.last L.«data» (omega arith) (omega (arith, L.invariant.1))) ∙ L.invariant.3
+    sym (encrypt_end (ciph a.size a.w.now) (length a.«data».now / 16) L.i L.last L.«data» (omega arith) (omega (arith, L.invariant.1))) ∙ L.invariant.3
 
 pub encrypt-blocks-spec : {M : Type 1} → statement M
 encrypt-blocks-spec =

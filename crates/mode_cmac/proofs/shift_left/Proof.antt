@@ -7,13 +7,13 @@ use native.Mathlib.Omega.{arith}
 use lib.ListN.{length, get_or, take, length-set, drop_of_length-le}
 use lib.Seq.{set_split}
 use Rattle.octets.specs.Bytes.{Bytes, tabulate}
-use Rattle.octets.proofs.Tabulate.{tabulate-store}
-use Rattle.mode_cmac.specs.Subkeys.{shiftedByte, shiftLeft}
+use Rattle.octets.proofs.Tabulate.{tabulate_store}
+use Rattle.mode_cmac.specs.Subkeys.{shifted_byte, shift_left}
 use Rattle.mode_cmac.proofs.shift_left.Statement.{statement}
 use Rattle.mode_cmac.proofs.shift_left.Tie as tie
 
 abbrev invariant-loop : tie.invariant-loop
-invariant-loop x r₀ i₀ r i = (i ≤ 15) × (length r ≡ 16) × (take i r ≡ tabulate i (shiftedByte x))
+invariant-loop x r₀ i₀ r i = (i ≤ 15) × (length r ≡ 16) × (take i r ≡ tabulate i (shifted_byte x))
 
 abbrev decreases-loop : tie.decreases-loop
 decreases-loop x r₀ i₀ r i = 15 - i
@@ -25,15 +25,15 @@ loop-again : tie.Need-loop-preserved invariant-loop decreases-loop
 loop-again c =
     let l = c.before.loop in
     let x = c.before.before.args.t1 in
-    (omega arith, simp length-set l.invariant.1, tabulate-store l.i (shiftedByte x) l.r l.invariant.2 (omega arith))
+    (omega arith, simp length-set l.invariant.1, tabulate_store l.i (shifted_byte x) l.r l.invariant.2 (omega arith))
 
 returns : tie.Need-returns invariant-loop decreases-loop
-unfolding shiftLeft
+unfolding shift_left
 returns c =
     let l = c.before.loop in
     let x = c.before.before.args.t1 in
     let e : l.i ≡ 15 = omega arith in
-    let first : take 15 l.r ≡ tabulate 15 (shiftedByte x) = rw e at l.invariant.2 in
+    let first : take 15 l.r ≡ tabulate 15 (shifted_byte x) = rw e at l.invariant.2 in
     set_split l.r 15 (get_or x 15 0 * 2 % 256) (omega arith)
     ∙ ap₂ (λ (a b : Bytes). a ++ (get_or x 15 0 * 2 % 256) ∷ b) first (drop_of_length-le l.r {i = 16} (omega arith))
 

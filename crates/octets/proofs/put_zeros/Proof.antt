@@ -6,7 +6,7 @@ use native.Mathlib.Omega.{arith}
 use lib.ListN.{length, take, set, length-set, get_or-replicate, length-replicate}
 use Rattle.octets.specs.Bytes.{Bytes, zeros}
 use Rattle.octets.specs.Write.{put}
-use Rattle.octets.proofs.Writing.{put-none, put-more, put_all}
+use Rattle.octets.proofs.Writing.{put_none, put_more, put_all}
 use Rattle.octets.proofs.put_zeros.Statement.{statement}
 use Rattle.octets.proofs.put_zeros.Tie as tie
 
@@ -17,7 +17,7 @@ abbrev decreases-loop : tie.decreases-loop
 decreases-loop out₀ at n i₀ out i = n - i
 
 loop-holds : tie.Need-loop-init invariant-loop decreases-loop
-loop-holds c = (put-none c.args.out.now c.args.at (zeros c.args.n), omega arith, search rules)
+loop-holds c = (put_none c.args.out.now c.args.at (zeros c.args.n), omega arith, search rules)
 
 loop-again : tie.Need-loop-preserved invariant-loop decreases-loop
 loop-again c =
@@ -25,7 +25,7 @@ loop-again c =
     let a = c.before.before.args in
     let size : length (zeros a.n) ≡ a.n = length-replicate a.n 0 in (
       ap₂ (λ (l : Bytes) (b : ℕ). set l (a.at + L.i) b) L.invariant.0 (sym (get_or-replicate a.n L.i 0 0 (omega arith)))
-          ∙ put-more a.out.now a.at (zeros a.n) L.i (omega arith) (omega (arith, size)),
+          ∙ put_more a.out.now a.at (zeros a.n) L.i (omega arith) (omega (arith, size)),
       omega arith,
       simp length-set L.invariant.2,
     )

@@ -6,7 +6,7 @@ use native.Mathlib.Omega.{arith}
 use lib.ListN.{length, get_or, take, length-set}
 use lib.Seq.{take_all}
 use Rattle.octets.specs.Bytes.{Bytes, tabulate}
-use Rattle.octets.proofs.Tabulate.{tabulate-store, tabulate-part}
+use Rattle.octets.proofs.Tabulate.{tabulate_store, tabulate_part}
 use Rattle.octets_blocks.proofs.block_at.Statement.{statement}
 use Rattle.octets_blocks.proofs.block_at.Tie as tie
 
@@ -26,7 +26,7 @@ loop-again : tie.Need-loop-preserved invariant-loop decreases-loop
 loop-again c =
     let l = c.before.before.loop in
     let a = c.before.before.before.args in
-    (omega arith, simp length-set l.invariant.1, tabulate-store l.i (byte a.bytes.now a.at) l.block l.invariant.2 (omega arith))
+    (omega arith, simp length-set l.invariant.1, tabulate_store l.i (byte a.bytes.now a.at) l.block l.invariant.2 (omega arith))
 
 returns : tie.Need-returns invariant-loop decreases-loop
 returns c =
@@ -34,7 +34,7 @@ returns c =
     let a = c.before.before.args in
     let e : l.i ≡ 16 = omega arith in
     let all : take 16 l.block ≡ tabulate 16 (byte a.bytes.now a.at) = rw e at l.invariant.2 in
-    sym (take_all 16 l.block (omega arith)) ∙ all ∙ tabulate-part 0 16 a.at a.bytes.now c.before.before.requires
+    sym (take_all 16 l.block (omega arith)) ∙ all ∙ tabulate_part 0 16 a.at a.bytes.now c.before.before.requires
 
 pub block-at-spec : {M : Type 1} → statement M
 block-at-spec =

@@ -6,7 +6,7 @@ use native.Mathlib.Omega.{arith}
 use lib.ListN.{length, get_or, take, length-set}
 use lib.Seq.{take_all}
 use Rattle.octets.specs.Bytes.{Bytes, ◌⊕◌, tabulate}
-use Rattle.octets.proofs.Tabulate.{tabulate-store, tabulate-xor}
+use Rattle.octets.proofs.Tabulate.{tabulate_store, tabulate_xor}
 use Rattle.octets_blocks.proofs.xor_block.Statement.{statement}
 use Rattle.octets_blocks.proofs.xor_block.Tie as tie
 
@@ -26,7 +26,7 @@ loop-again : tie.Need-loop-preserved invariant-loop decreases-loop
 loop-again c =
     let l = c.before.loop in
     let args = c.before.before.args in
-    (omega arith, simp length-set l.invariant.1, tabulate-store l.i (sum args.t1 args.t2) l.block l.invariant.2 (omega arith))
+    (omega arith, simp length-set l.invariant.1, tabulate_store l.i (sum args.t1 args.t2) l.block l.invariant.2 (omega arith))
 
 returns : tie.Need-returns invariant-loop decreases-loop
 returns c =
@@ -34,7 +34,7 @@ returns c =
     let args = c.before.before.args in
     let e : l.i ≡ 16 = omega arith in
     let all : take 16 l.block ≡ tabulate 16 (sum args.t1 args.t2) = rw e at l.invariant.2 in
-    sym (take_all 16 l.block (omega arith)) ∙ all ∙ tabulate-xor 16 args.t1 args.t2 (search rules) (search rules)
+    sym (take_all 16 l.block (omega arith)) ∙ all ∙ tabulate_xor 16 args.t1 args.t2 (search rules) (search rules)
 
 pub xor-block-spec : {M : Type 1} → statement M
 xor-block-spec =

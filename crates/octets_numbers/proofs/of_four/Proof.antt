@@ -1,11 +1,11 @@
 -- `of_four` meets its contract: byte by byte.
 use borrow.Author.Rules.{rules}
-use Rattle.octets_numbers.specs.BigEndian.{numberFrom, number_in}
+use Rattle.octets_numbers.specs.BigEndian.{number_from, number_in}
 use Rattle.octets_numbers.proofs.of_four.Statement.{statement}
 use Rattle.octets_numbers.proofs.of_four.Tie as tie
 
 returns : tie.Need-returns
-unfolding number_in numberFrom
+unfolding number_in number_from
 returns c = search rules
 
 pub of-four-spec : {M : Type 1} → statement M

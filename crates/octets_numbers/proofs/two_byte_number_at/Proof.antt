@@ -2,7 +2,7 @@
 use mathlib.Core.Path.{ap, ◌∙◌}
 use native.Mathlib.Nat.{add-zero}
 use borrow.Author.Rules.{rules}
-use Rattle.octets.proofs.Tabulate.{tabulate-part}
+use Rattle.octets.proofs.Tabulate.{tabulate_part}
 use Rattle.octets_numbers.specs.BigEndian.{number_in}
 use Rattle.octets_numbers.proofs.two_byte_number_at.Statement.{statement}
 use Rattle.octets_numbers.proofs.two_byte_number_at.Tie as tie
@@ -10,7 +10,7 @@ use Rattle.octets_numbers.proofs.two_byte_number_at.Tie as tie
 returns : tie.Need-returns
 returns c =
     let a = c.before.before.before.before.args in
-    c.of_two.ensures ∙ ap number_in (rw add-zero at (tabulate-part 0 2 a.at a.bytes.now c.before.before.before.before.requires))
+    c.of_two.ensures ∙ ap number_in (rw add-zero at (tabulate_part 0 2 a.at a.bytes.now c.before.before.before.before.requires))
 
 pub two-byte-number-at-spec : {M : Type 1} → statement M
 two-byte-number-at-spec =

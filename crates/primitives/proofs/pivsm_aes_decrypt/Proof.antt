@@ -2,25 +2,25 @@
 use borrow.Author.Rules.{rules}
 use mathlib.Core.Path.{sym, ◌∙◌}
 use borrow.Author.Tests.{ne_eqb}
-use Rattle.aes.specs.Aes.{invCiph, invAes}
-use Rattle.primitives.proofs.Results.{key_fits, bad-key, malformed, block-done}
+use Rattle.aes.specs.Aes.{inv_ciph, inv_aes}
+use Rattle.primitives.proofs.Results.{key_fits, bad_key, malformed, block_done}
 use Rattle.primitives.proofs.pivsm_aes_decrypt.Statement.{statement}
 use Rattle.primitives.proofs.pivsm_aes_decrypt.Tie as tie
 
 returns-3 : tie.Need-returns-3
-unfolding invAes
+unfolding inv_aes
 returns-3 c =
     let made = c.before.before.before.before.before in
     let expanded = made.before.before.before.before in
     let sized = expanded.before.before.before in
-    block-done _ _ _ (sym sized.before.before.key-size.ensures ∙ sized.size.given.1) expanded.before.if1.false invCiph
+    block_done _ _ _ (sym sized.before.before.key_size_lem.ensures ∙ sized.size.given.1) expanded.before.if1.false inv_ciph
     expanded.expanded.ensures made.before.block_at.ensures made.decrypt-block.ensures (search rules) c.before.before.put-bytes.ensures
 
 pub pivsm-aes-decrypt-spec : {M : Type 1} → statement M
 pivsm-aes-decrypt-spec =
     tie.close
     (tie.spec (λ c κs. search rules) (λ c. search rules) (λ c. search rules)
-    (λ c. bad-key _ _ _ _ (sym c.before.before.key-size.ensures ∙ c.enum_told.given.1))
-    (λ c. malformed _ _ _ _ _ (sym c.before.before.before.before.key-size.ensures ∙ c.before.before.size.given.1) (ne_eqb _ _ c.if1.true))
-    (λ c κs. key_fits _ _ (sym c.before.before.before.before.key-size.ensures ∙ c.before.before.size.given.1))
+    (λ c. bad_key _ _ _ _ (sym c.before.before.key_size_lem.ensures ∙ c.enum_told.given.1))
+    (λ c. malformed _ _ _ _ _ (sym c.before.before.before.before.key_size_lem.ensures ∙ c.before.before.size.given.1) (ne_eqb _ _ c.if1.true))
+    (λ c κs. key_fits _ _ (sym c.before.before.before.before.key_size_lem.ensures ∙ c.before.before.size.given.1))
     (λ c κs. search rules) (λ c κs. search rules) (λ c. search rules) (λ c κs. search rules) (λ c. search rules) returns-3)

@@ -2,7 +2,7 @@
 use borrow.Author.Rules.{rules}
 use Rattle.session.proofs.open_session.Statement.{statement}
 use Rattle.session.proofs.open_session.Tie as tie
-use Rattle.session.specs.Opening.{opening, openSuite}
+use Rattle.session.specs.Opening.{opening, open_suite}
 
 returns : tie.Need-returns
 unfolding opening
@@ -17,7 +17,7 @@ returns c =
     )
 
 returns-2 : tie.Need-returns-2
-unfolding opening openSuite
+unfolding opening open_suite
 returns-2 c =
     let d = c.before.before.before in (
       rw (← d.suite-of.ensures, c.before.enum_told.given.1) c.not_opened.ensures,

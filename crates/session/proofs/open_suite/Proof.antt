@@ -7,18 +7,18 @@ use mathlib.Core.Bool.{Bool, true}
 use Prim.Native.Nat.{ℕ, ◌≤◌}
 use native.Mathlib.Omega.{arith}
 use lib.ListN.{length}
-use Rattle.session_suite.specs.Suites.{keyLength}
-use Rattle.session_suite.specs.StoredKeys.{Keys, keys, keysFit}
-use Rattle.session.specs.Opening.{openSuite}
+use Rattle.session_suite.specs.Suites.{key_length}
+use Rattle.session_suite.specs.StoredKeys.{Keys, keys, keys_fit}
+use Rattle.session.specs.Opening.{open_suite}
 use Rattle.session_suite.specs.declared.Suite.{Suite}
-use Rattle.session_suite.proofs.StoredKeys.{key-length-most, fitting}
+use Rattle.session_suite.proofs.StoredKeys.{key_length_most, fitting}
 
 -- keys that fit have room in 32 bytes
-room : (suite : Suite) (n : ℕ) (k : Keys) (fit : Bool) → n ≡ keyLength suite → fit ≡ keysFit n k → fit ≡ true
+room : (suite : Suite) (n : ℕ) (k : Keys) (fit : Bool) → n ≡ key_length suite → fit ≡ keys_fit n k → fit ≡ true
     → (length k.enc ≤ 32) × (length k.mac ≤ 32) × (length k.rmac ≤ 32)
 room suite n k fit h e t =
     let f = fitting n k (sym e ∙ t) in
-    let m = key-length-most suite in
+    let m = key_length_most suite in
     (omega (arith, f.enc), omega (arith, f.mac), omega (arith, f.rmac))
 
 stored-requires : tie.Need-stored-requires
@@ -42,7 +42,7 @@ stored-requires-3 c κs =
     d.before.before.key-length.ensures d.before.keys-fit.ensures d.if1.true).2
 
 returns : tie.Need-returns
-unfolding openSuite
+unfolding open_suite
 returns c =
     let d = c.before.before.before.before in
     rw (
@@ -56,7 +56,7 @@ returns c =
     )
 
 returns-2 : tie.Need-returns-2
-unfolding openSuite
+unfolding open_suite
 returns-2 c =
     let d = c.before in
     rw (← d.before.before.key-length.ensures, ← d.before.keys-fit.ensures, d.if1.false) c.not_opened.ensures

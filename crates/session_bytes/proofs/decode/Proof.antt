@@ -3,13 +3,13 @@ use borrow.Author.Rules.{rules}
 use Rattle.session_bytes.proofs.decode.Statement.{statement}
 use Rattle.session_bytes.proofs.decode.Tie as tie
 use Rattle.octets.proofs.Tests.{outcome}
-use Rattle.session_bytes.proofs.SavedParts.{headed-right}
+use Rattle.session_bytes.proofs.SavedParts.{headed_right}
 use Rattle.session_bytes.specs.Saved.{headed, decode}
 
 decode-suite-requires : tie.Need-decode-suite-requires
 decode-suite-requires c κs =
     let b = c.before.before.before.args.bytes.now in
-    (headed-right b (outcome (headed b) c.before.headed.ensures c.if1.true)).size
+    (headed_right b (outcome (headed b) c.before.headed.ensures c.if1.true)).size
 
 returns : tie.Need-returns
 unfolding decode

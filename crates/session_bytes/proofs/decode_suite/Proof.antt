@@ -3,10 +3,10 @@ use borrow.Author.Rules.{rules}
 use Rattle.session_bytes.proofs.decode_suite.Statement.{statement}
 use Rattle.session_bytes.proofs.decode_suite.Tie as tie
 use mathlib.Core.Path.{ap, ◌∙◌}
-use Rattle.session_bytes.specs.Saved.{decodeSuite, accepted}
+use Rattle.session_bytes.specs.Saved.{decode_suite, accepted}
 
 returns : tie.Need-returns
-unfolding decodeSuite
+unfolding decode_suite
 returns c =
     rw (
       ← c.before.before.before.before.before.before.wide.ensures,
@@ -16,7 +16,7 @@ returns c =
     (c.accepted.ensures ∙ ap accepted c.before.session-from.ensures)
 
 returns-2 : tie.Need-returns-2
-unfolding decodeSuite
+unfolding decode_suite
 returns-2 c =
     rw (
       ← c.before.before.before.before.wide.ensures,

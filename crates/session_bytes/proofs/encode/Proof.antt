@@ -6,36 +6,36 @@ use borrow.Author.Tests.{le-leb, lt-leb}
 use mathlib.Core.Path.{refl}
 use lib.ListN.{length}
 use Rattle.octets.proofs.Tests.{outcome}
-use Rattle.octets.proofs.Writing.{wrote-all}
+use Rattle.octets.proofs.Writing.{wrote_all}
 use Rattle.session_rules.specs.Valid.{valid}
-use Rattle.session_bytes.specs.Saved.{sessionSize}
-use Rattle.session_bytes.specs.Saving.{encoding, encodedIn}
+use Rattle.session_bytes.specs.Saved.{session_size}
+use Rattle.session_bytes.specs.Saving.{encoding, encoded_in}
 
 returns : tie.Need-returns
-unfolding encoding encodedIn
+unfolding encoding encoded_in
 returns c =
     let a = c.before.before.before.before.before.before.before.before.args in (
       rw (
         outcome (valid a.session) c.before.before.before.before.before.before.valid.ensures
             c.before.before.before.before.before.if1.true,
-        le-leb sessionSize (length a.out.now) c.before.before.before.before.if2.true,
+        le-leb session_size (length a.out.now) c.before.before.before.before.if2.true,
       ),
-      wrote-all c.before.before.put-session.ensures,
+      wrote_all c.before.before.put-session.ensures,
     )
 
 returns-2 : tie.Need-returns-2
-unfolding encoding encodedIn
+unfolding encoding encoded_in
 returns-2 c =
     let a = c.before.before.before.before.args in (
       rw (
         outcome (valid a.session) c.before.before.valid.ensures c.before.if1.true,
-        lt-leb sessionSize (length a.out.now) c.if2.false,
+        lt-leb session_size (length a.out.now) c.if2.false,
       ),
       refl,
     )
 
 returns-3 : tie.Need-returns-3
-unfolding encoding encodedIn
+unfolding encoding encoded_in
 returns-3 c =
     (rw (outcome (valid c.before.before.before.args.session) c.before.valid.ensures c.if1.false), refl)
 

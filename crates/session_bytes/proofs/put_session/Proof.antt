@@ -4,14 +4,14 @@ use Rattle.session_bytes.proofs.put_session.Statement.{statement}
 use Rattle.session_bytes.proofs.put_session.Tie as tie
 use native.Mathlib.Omega.{arith}
 use Rattle.octets.proofs.Writing.{wrote_then}
-use Rattle.session_bytes.proofs.SavedParts.{length-header, length-keys}
+use Rattle.session_bytes.proofs.SavedParts.{length_header, length_keys}
 use Rattle.session_bytes.specs.Saved.{encode}
 
 put-keys-requires : tie.Need-put-keys-requires
 put-keys-requires c κs =
     omega (
       arith,
-      length-header c.before.before.before.before.before.before.args.session,
+      length_header c.before.before.before.before.before.before.args.session,
       c.before.before.before.put-header.ensures.end,
       c.before.before.before.put-header.auto,
     )
@@ -19,11 +19,11 @@ put-keys-requires c κs =
 put-mcvs-requires : tie.Need-put-mcvs-requires
 put-mcvs-requires c κs =
     let s = c.before.before.before.before.before.before.before.before.before.before.args.session in
-    let k = length-keys s (search rules) (search rules) (search rules) in
+    let k = length_keys s (search rules) (search rules) (search rules) in
     omega (
       arith,
       k,
-      length-header s,
+      length_header s,
       c.before.before.before.before.before.before.before.put-header.ensures.end,
       c.before.before.before.before.before.before.before.put-header.auto,
       c.before.before.before.put-keys.ensures.end,

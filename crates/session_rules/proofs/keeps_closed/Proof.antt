@@ -4,29 +4,29 @@ use Rattle.session_rules.proofs.keeps_closed.Statement.{statement}
 use Rattle.session_rules.proofs.keeps_closed.Tie as tie
 use borrow.Author.Tests.{eq-eqb, ne_eqb}
 use Rattle.octets.proofs.Tests.{outcome}
-use Rattle.session_rules.specs.Valid.{keepsPhase}
-use Rattle.session_rules.specs.ZeroBytes.{keysZero}
+use Rattle.session_rules.specs.Valid.{keeps_phase}
+use Rattle.session_rules.specs.ZeroBytes.{keys_zero}
 
 returns : tie.Need-returns
-unfolding keepsPhase
+unfolding keeps_phase
 returns c =
     let s = c.before.before.before.before.before.args.session in
     rw (
       eq-eqb s.count 0 c.before.before.before.if1.true,
-      outcome (keysZero s) c.before.before.keys-zero.ensures c.before.if2.true,
+      outcome (keys_zero s) c.before.before.keys-zero.ensures c.before.if2.true,
     ) c.mcvs-zero.ensures
 
 returns-2 : tie.Need-returns-2
-unfolding keepsPhase
+unfolding keeps_phase
 returns-2 c =
     let s = c.before.before.before.before.args.session in
     rw (
       eq-eqb s.count 0 c.before.before.if1.true,
-      outcome (keysZero s) c.before.keys-zero.ensures c.if2.false,
+      outcome (keys_zero s) c.before.keys-zero.ensures c.if2.false,
     )
 
 returns-3 : tie.Need-returns-3
-unfolding keepsPhase
+unfolding keeps_phase
 returns-3 c =
     let s = c.before.before.args.session in
     rw (ne_eqb s.count 0 c.if1.false)

@@ -4,33 +4,33 @@ use Rattle.session_rules.proofs.keeps_ready.Statement.{statement}
 use Rattle.session_rules.proofs.keeps_ready.Tie as tie
 use borrow.Author.Tests.{eq-eqb, ne_eqb}
 use Rattle.octets.proofs.Tests.{outcome}
-use Rattle.session_rules.specs.Valid.{keepsPhase}
-use Rattle.session_rules.specs.ZeroBytes.{keysEnd}
+use Rattle.session_rules.specs.Valid.{keeps_phase}
+use Rattle.session_rules.specs.ZeroBytes.{keys_end}
 
 returns : tie.Need-returns
-unfolding keepsPhase
+unfolding keeps_phase
 returns c =
     let s = c.before.before.before.before.before.args.session in
     rw (
-      outcome (keysEnd s) c.before.before.before.before.keys-end.ensures
+      outcome (keys_end s) c.before.before.before.before.keys-end.ensures
           c.before.before.before.if1.true,
       eq-eqb s.count 0 c.before.if2.true,
     ) c.mcvs-zero.ensures
 
 returns-2 : tie.Need-returns-2
-unfolding keepsPhase
+unfolding keeps_phase
 returns-2 c =
     let s = c.before.before.before.before.args.session in
     rw (
-      outcome (keysEnd s) c.before.before.before.keys-end.ensures c.before.before.if1.true,
+      outcome (keys_end s) c.before.before.before.keys-end.ensures c.before.before.if1.true,
       ne_eqb s.count 0 c.if2.false,
     )
 
 returns-3 : tie.Need-returns-3
-unfolding keepsPhase
+unfolding keeps_phase
 returns-3 c =
     let s = c.before.before.args.session in
-    rw (outcome (keysEnd s) c.before.keys-end.ensures c.if1.false)
+    rw (outcome (keys_end s) c.before.keys-end.ensures c.if1.false)
 
 pub keeps-ready-spec : {M : Type 1} → statement M
 keeps-ready-spec = tie.close (tie.spec (λ c κs. search rules) (λ c κs. search rules) returns returns-2 returns-3)

@@ -4,7 +4,7 @@ use Rattle.session_rules.proofs.valid.Statement.{statement}
 use Rattle.session_rules.proofs.valid.Tie as tie
 use borrow.Author.Tests.{le-leb, lt-leb}
 use mathlib.Core.Path.{sym, ap, ◌∙◌}
-use Rattle.session_rules.specs.Valid.{keepsPhase, valid}
+use Rattle.session_rules.specs.Valid.{keeps_phase, valid}
 
 returns : tie.Need-returns
 unfolding valid
@@ -14,7 +14,7 @@ returns-2 : tie.Need-returns-2
 unfolding valid
 returns-2 c =
     let s = c.before.before.before.before.before.args.session in
-    rw (le-leb s.count 65535 c.before.before.before.if1.false) (c.keeps-ready.ensures ∙ ap (keepsPhase s)
+    rw (le-leb s.count 65535 c.before.before.before.if1.false) (c.keeps-ready.ensures ∙ ap (keeps_phase s)
     (sym c.before.enum_told.given.1))
 
 returns-3 : tie.Need-returns-3
@@ -22,13 +22,13 @@ unfolding valid
 returns-3 c =
     let s = c.before.before.before.before.before.args.session in
     rw (le-leb s.count 65535 c.before.before.before.if1.false)
-    (c.keeps-pending.ensures ∙ ap (keepsPhase s) (sym c.before.enum-told2.given.1))
+    (c.keeps-pending.ensures ∙ ap (keeps_phase s) (sym c.before.enum-told2.given.1))
 
 returns-4 : tie.Need-returns-4
 unfolding valid
 returns-4 c =
     let s = c.before.before.before.before.before.args.session in
-    rw (le-leb s.count 65535 c.before.before.before.if1.false) (c.keeps-closed.ensures ∙ ap (keepsPhase s)
+    rw (le-leb s.count 65535 c.before.before.before.if1.false) (c.keeps-closed.ensures ∙ ap (keeps_phase s)
     (sym c.before.enum-told3.given.1))
 
 pub valid-spec : {M : Type 1} → statement M

@@ -3,7 +3,7 @@ use borrow.Author.Rules.{rules}
 use Rattle.chain_fragment_command.proofs.part.fragment_count.Statement.{statement}
 use Rattle.chain_fragment_command.proofs.part.fragment_count.Tie as tie
 use native.Mathlib.Omega.{arith}
-use Rattle.chain_command.specs.Fragment.{fragmentCount}
+use Rattle.chain_command.specs.Fragment.{fragment_count}
 use Rattle.chain_command.proofs.Sizes.{sized}
 
 sub-result : tie.Need-overflow-sub-result
@@ -16,7 +16,7 @@ div-result : tie.Need-nonzero-div-result
 div-result c = let s = sized c.before.args.size c.before.requires.1 in omega (arith, s.positive, c.fragment-size.ensures)
 
 returns : tie.Need-returns
-unfolding fragmentCount
+unfolding fragment_count
 returns c = rw c.fragment-size.ensures
 
 pub fragment-count-spec : {M : Type 1} → statement M

@@ -4,19 +4,19 @@ use Rattle.chain_fragment_command.proofs.part.fragment_part.Statement.{statement
 use Rattle.chain_fragment_command.proofs.part.fragment_part.Tie as tie
 use native.Mathlib.Numerals.{add-one}
 use native.Mathlib.Omega.{arith}
-use Rattle.chain_fragment_command.proofs.Parts.{starts-in, number_in}
+use Rattle.chain_fragment_command.proofs.Parts.{starts_in, number_in}
 
 mul-start : tie.Need-overflow-mul-start
 mul-start c =
     let a = c.before.before.before.args in
     let h = c.before.before.before.requires in
-    omega (arith, starts-in a.field.now a.size a.number h.1 h.2 _ c.fragment-size.ensures, number_in a.field.now a.size a.number h.1 h.2)
+    omega (arith, starts_in a.field.now a.size a.number h.1 h.2 _ c.fragment-size.ensures, number_in a.field.now a.size a.number h.1 h.2)
 
 part-end-requires : tie.Need-part-end-requires
 part-end-requires c κs =
     let a = c.before.before.before.args in
     let h = c.before.before.before.requires in
-    omega (arith, starts-in a.field.now a.size a.number h.1 h.2 _ c.fragment-size.ensures)
+    omega (arith, starts_in a.field.now a.size a.number h.1 h.2 _ c.fragment-size.ensures)
 
 returns : tie.Need-returns
 returns c = simp (c.part-end.ensures, c.before.fragment-size.ensures, c.before.before.fragment-count.ensures, add-one)

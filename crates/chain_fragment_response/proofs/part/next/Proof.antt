@@ -2,10 +2,10 @@
 use borrow.Author.Rules.{rules}
 use Rattle.chain_fragment_response.proofs.part.next.Statement.{statement}
 use Rattle.chain_fragment_response.proofs.part.next.Tie as tie
-use Rattle.chain_response.specs.Fragment.{fragmentData, next}
+use Rattle.chain_response.specs.Fragment.{fragment_data, next}
 
 returns : tie.Need-returns
-unfolding next fragmentData
+unfolding next fragment_data
 returns c = simp (c.part-end.ensures, c.before.asked.ensures)
 
 pub next-spec : {M : Type 1} → statement M

@@ -5,17 +5,17 @@ use Rattle.chain_fragment_response.proofs.part.put_status.Statement.{statement}
 use Rattle.chain_fragment_response.proofs.part.put_status.Tie as tie
 use mathlib.Core.Path.{sym}
 use Rattle.message_answer.specs.Message.{status}
-use Rattle.chain_fragment_response.proofs.Parts.{status-last, status-more}
+use Rattle.chain_fragment_response.proofs.Parts.{status_last, status_more}
 
 returns : tie.Need-returns
 returns c =
     let a = c.before.before.before.before.before.before.before.args in
-    rw (status-last (status a.sw1 a.sw2) a.left c.before.before.before.before.before.if1.true) c.before.before.put-bytes.ensures
+    rw (status_last (status a.sw1 a.sw2) a.left c.before.before.before.before.before.if1.true) c.before.before.put-bytes.ensures
 
 returns-2 : tie.Need-returns-2
 returns-2 c =
     let a = c.before.before.before.before.before.before.before.before.args in
-    rw (status-more (status a.sw1 a.sw2) a.left c.before.before.before.before.before.before.if1.false, sym c.before.before.before.before.announced.ensures) c.before.before.put-bytes2.ensures
+    rw (status_more (status a.sw1 a.sw2) a.left c.before.before.before.before.before.before.if1.false, sym c.before.before.before.before.announced.ensures) c.before.before.put-bytes2.ensures
 
 pub put-status-spec : {M : Type 1} → statement M
 put-status-spec =

@@ -5,14 +5,14 @@ use Rattle.chain_reassemble_command.proofs.apdu.is_chained.Statement.{statement}
 use Rattle.chain_reassemble_command.proofs.apdu.is_chained.Tie as tie
 use borrow.Author.Tests.{eq-eqb, ne_eqb}
 use lib.ListN.{get_or}
-use Rattle.chain_command.specs.Apdu.{isChained}
+use Rattle.chain_command.specs.Apdu.{is_chained}
 
 returns : tie.Need-returns
-unfolding isChained
+unfolding is_chained
 returns c = let b = c.before.before.before.before.args.apdu.now in rw (ne_eqb (get_or b 0 0) 0x1C c.if1.true)
 
 returns-2 : tie.Need-returns-2
-unfolding isChained
+unfolding is_chained
 returns-2 c =
     let b = c.before.before.before.before.args.apdu.now in
     rw (eq-eqb (get_or b 0 0) 0x1C c.if1.false, ← c.before.before.lc.ensures.0)

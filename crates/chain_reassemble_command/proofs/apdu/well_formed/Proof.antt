@@ -7,20 +7,20 @@ use mathlib.Core.Path.{sym}
 use native.Mathlib.Omega.{arith}
 use borrow.Author.Tests.{le-leb, lt-leb}
 use Rattle.octets.proofs.Tests.{outcome}
-use Rattle.chain_command.specs.Apdu.{wellFormed}
-use Rattle.chain_reassemble_command.proofs.Shapes.{short-malformed}
+use Rattle.chain_command.specs.Apdu.{well_formed}
+use Rattle.chain_reassemble_command.proofs.Shapes.{short_malformed}
 
 returns : tie.Need-returns
-returns c = sym (short-malformed c.before.before.args.apdu.now c.if1.true)
+returns c = sym (short_malformed c.before.before.args.apdu.now c.if1.true)
 
 returns-2 : tie.Need-returns-2
-unfolding wellFormed
+unfolding well_formed
 returns-2 c =
     let n = c.before.lc.result in
     rw (← c.before.lc.ensures.0, lt-leb 1 n (omega (arith, c.if2.true)))
 
 returns-3 : tie.Need-returns-3
-unfolding wellFormed
+unfolding well_formed
 returns-3 c =
     let n = c.before.before.before.lc.result in
     rw (
@@ -31,7 +31,7 @@ returns-3 c =
     )
 
 returns-4 : tie.Need-returns-4
-unfolding wellFormed
+unfolding well_formed
 returns-4 c =
     let n = c.before.before.before.before.lc.result in
     rw (

@@ -8,8 +8,8 @@ use Prim.Native.Nat.{ℕ, ◌+◌}
 use native.Mathlib.Omega.{arith}
 use borrow.Author.Tests.{not-true, not-false}
 use Rattle.octets.proofs.Tests.{outcome}
-use Rattle.chain_reassemble_command.proofs.Shapes.{holds-data}
-use Rattle.chain_reassemble_command.proofs.CommandTests.{possible-short, malformed, impossible, broken, too_long, no_room, passed}
+use Rattle.chain_reassemble_command.proofs.Shapes.{holds_data}
+use Rattle.chain_reassemble_command.proofs.CommandTests.{possible_short, malformed, impossible, broken, too_long, no_room, passed}
 
 returns : tie.Need-returns
 returns c = let a = c.before.before.before.args in malformed a.chain a.apdu.now a.room (outcome _ c.before.well-formed-2.ensures (not-true _ c.if1.true))
@@ -21,13 +21,13 @@ returns-2 c =
     impossible a.chain a.apdu.now a.room shaped (outcome _ c.before.possible.ensures (not-true _ c.if2.true))
 
 shared-slice-read-continues : tie.Need-shared-slice-read-continues
-shared-slice-read-continues c = omega (arith, holds-data _ (outcome _ c.before.before.before.before.well-formed-2.ensures (not-false _ c.before.before.before.if1.false)))
+shared-slice-read-continues c = omega (arith, holds_data _ (outcome _ c.before.before.before.before.well-formed-2.ensures (not-false _ c.before.before.before.if1.false)))
 
 shared-slice-read-continues-2 : tie.Need-shared-slice-read-continues-2
-shared-slice-read-continues-2 c = omega (arith, holds-data _ (outcome _ c.before.before.before.before.before.well-formed-2.ensures (not-false _ c.before.before.before.before.if1.false)))
+shared-slice-read-continues-2 c = omega (arith, holds_data _ (outcome _ c.before.before.before.before.before.well-formed-2.ensures (not-false _ c.before.before.before.before.if1.false)))
 
 shared-slice-read-continues-3 : tie.Need-shared-slice-read-continues-3
-shared-slice-read-continues-3 c = omega (arith, holds-data _ (outcome _ c.before.before.before.before.before.before.well-formed-2.ensures (not-false _ c.before.before.before.before.before.if1.false)))
+shared-slice-read-continues-3 c = omega (arith, holds_data _ (outcome _ c.before.before.before.before.before.before.well-formed-2.ensures (not-false _ c.before.before.before.before.before.if1.false)))
 
 returns-3 : tie.Need-returns-3
 returns-3 c =
@@ -37,12 +37,12 @@ returns-3 c =
     broken a.chain a.apdu.now a.room shaped state (outcome _ c.before.continues.ensures (not-true _ c.if3.true))
 
 lc-requires : tie.Need-lc-requires
-lc-requires c κs = omega (arith, holds-data _ (outcome _ c.before.before.before.before.before.before.before.before.well-formed-2.ensures (not-false _ c.before.before.before.before.before.before.before.if1.false)))
+lc-requires c κs = omega (arith, holds_data _ (outcome _ c.before.before.before.before.before.before.before.before.well-formed-2.ensures (not-false _ c.before.before.before.before.before.before.before.if1.false)))
 
 add-needed : tie.Need-overflow-add-needed
 add-needed c =
     let state = outcome _ c.before.before.before.before.before.before.before.before.possible.ensures (not-false _ c.before.before.before.before.before.before.before.if2.false) in
-    omega (arith, possible-short _ state, c.before.lc.ensures.1)
+    omega (arith, possible_short _ state, c.before.lc.ensures.1)
 
 returns-4 : tie.Need-returns-4
 returns-4 c =

@@ -5,7 +5,7 @@ use Rattle.chain_reassemble_response.proofs.checks.reassembly_checks.Tie as tie
 use native.Mathlib.Omega.{arith}
 use borrow.Author.Tests.{not-true, not-false}
 use Rattle.octets.proofs.Tests.{outcome}
-use Rattle.chain_reassemble_response.proofs.ResponseTests.{has-status, short-data, possible-short, malformed, impossible, too_long, no_room, passed}
+use Rattle.chain_reassemble_response.proofs.ResponseTests.{has_status, short_data, possible_short, malformed, impossible, too_long, no_room, passed}
 
 returns : tie.Need-returns
 returns c = let a = c.before.before.before.args in malformed a.chain a.bytes.now a.room (outcome _ c.before.well-formed-2.ensures (not-true _ c.if1.true))
@@ -17,13 +17,13 @@ returns-2 c =
     impossible a.chain a.bytes.now a.room shaped (outcome _ c.before.possible.ensures (not-true _ c.if2.true))
 
 sub-n : tie.Need-overflow-sub-n
-sub-n c = has-status _ (outcome _ c.before.before.before.well-formed-2.ensures (not-false _ c.before.before.if1.false))
+sub-n c = has_status _ (outcome _ c.before.before.before.well-formed-2.ensures (not-false _ c.before.before.if1.false))
 
 add-needed : tie.Need-overflow-add-needed
 add-needed c =
     let shaped = outcome _ c.before.before.before.before.well-formed-2.ensures (not-false _ c.before.before.before.if1.false) in
     let state = outcome _ c.before.before.possible.ensures (not-false _ c.before.if2.false) in
-    omega (arith, short-data _ shaped, possible-short _ state)
+    omega (arith, short_data _ shaped, possible_short _ state)
 
 returns-3 : tie.Need-returns-3
 returns-3 c =

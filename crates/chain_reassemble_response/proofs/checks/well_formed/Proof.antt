@@ -6,14 +6,14 @@ use native.Mathlib.Omega.{arith}
 use borrow.Author.Tests.{not-true, not-false, le-leb, lt-leb}
 use lib.ListN.{length}
 use Rattle.octets.proofs.Tests.{outcome}
-use Rattle.chain_response.specs.Reassembly.{wellFormed}
+use Rattle.chain_response.specs.Reassembly.{well_formed}
 
 returns : tie.Need-returns
-unfolding wellFormed
+unfolding well_formed
 returns c = rw (lt-leb 2 (length c.before.before.args.bytes.now) (omega (arith, c.if1.true)))
 
 returns-2 : tie.Need-returns-2
-unfolding wellFormed
+unfolding well_formed
 returns-2 c =
     let b = c.before.before.before.before.args.bytes.now in
     rw (
@@ -22,7 +22,7 @@ returns-2 c =
     )
 
 returns-3 : tie.Need-returns-3
-unfolding wellFormed
+unfolding well_formed
 returns-3 c =
     let b = c.before.before.before.before.args.bytes.now in
     rw (

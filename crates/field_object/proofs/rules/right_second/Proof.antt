@@ -2,21 +2,21 @@
 use borrow.Author.Rules.{rules}
 use mathlib.Core.Path.{sym, ◌∙◌}
 use borrow.Author.Tests.{eq-eqb, ne_eqb}
-use Rattle.field_object.specs.Values.{rightSecond}
+use Rattle.field_object.specs.Values.{right_second}
 use Rattle.field_object.proofs.rules.right_second.Statement.{statement}
 use Rattle.field_object.proofs.rules.right_second.Tie as tie
 
 returns : tie.Need-returns
-unfolding rightSecond
+unfolding right_second
 returns c =
     simp (c.before.before.before.second.given.1, ne_eqb _ _ (λ e. c.if1.true (c.before.byte-at2.ensures ∙ e)))
 
 returns-2 : tie.Need-returns-2
-unfolding rightSecond
+unfolding right_second
 returns-2 c = simp (c.before.enum_told.given.1, c.byte_at.ensures)
 
 returns-3 : tie.Need-returns-3
-unfolding rightSecond
+unfolding right_second
 returns-3 c =
     simp (c.before.before.before.before.second.given.1, eq-eqb _ _ (sym c.before.before.byte-at2.ensures ∙ c.before.if1.false), c.byte-after.ensures)
 

@@ -48,7 +48,7 @@ use denote.Triple.Table.{entered, cited}
 use denote.Triple.Walked.{says, needs, Stays, stay_none, stay_none_slice, walk_of, Goes-none, Goes-none_slice, Walks, ends_at, walked, walk_Meets}
 use borrow.Within.Token.{Rest, within_token, within_end}
 use Rattle.field_expected.specs.declared.Wanted.{Wanted}
-use Rattle.field_object.specs.Object.{readObject}
+use Rattle.field_object.specs.Object.{read_object}
 use Rattle.field_object.specs.declared.ObjectRead.{ObjectRead}
 use Rattle.field_expected.specs.contracts.Wanted as G
 use Rattle.field_expected.proofs.Wanted.TheLaws as G'
@@ -194,7 +194,7 @@ module _ {M : Type 1} {𝓤 : Ura M} (𝓛 : Logic 𝓤) (at_mem : Memory → SP
 
   -- what `next` says of what it read and of the reader's last value
   abbrev Read : ObjectRead → Type 0
-  Read t = t ≡ readObject w n s.now index
+  Read t = t ≡ read_object w n s.now index
 
   abbrev Moved : ObjectRead → Reader → Type 0
   Moved t z = z ≡ moved d t

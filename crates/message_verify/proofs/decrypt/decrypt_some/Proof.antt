@@ -4,7 +4,7 @@ use mathlib.Core.Path.{◌≡◌, sym, ◌∙◌}
 use native.Mathlib.Omega.{arith}
 use lib.ListN.{length}
 use lib.Seq.{length-take-le}
-use Rattle.octets.proofs.Writing.{wrote-length}
+use Rattle.octets.proofs.Writing.{wrote_length}
 use Rattle.message_verify.proofs.InMemory.{in_memory}
 use Rattle.message_verify.proofs.decrypt.decrypt_some.Statement.{statement}
 use Rattle.message_verify.proofs.decrypt.decrypt_some.Tie as tie
@@ -14,7 +14,7 @@ decrypt-start-requires c κs =
     let copied = c.before.before.before.before in
     let w = copied.put-bytes.ensures in
     let h = copied.before.before.before.before.before.before.before.before.requires in
-    (omega (arith, w.end, h.1), omega (arith, w.end, h.2, wrote-length (omega (arith, h.2)) w))
+    (omega (arith, w.end, h.1), omega (arith, w.end, h.2, wrote_length (omega (arith, h.2)) w))
 
 slice-aggregate-unpad : tie.Need-slice-aggregate-unpad
 slice-aggregate-unpad c =
@@ -22,7 +22,7 @@ slice-aggregate-unpad c =
     let copied = decrypted.before.before.before.before.before in
     let w = copied.put-bytes.ensures in
     let h = copied.before.before.before.before.before.before.before.before.requires in
-    sym (length-take-le _ _ (omega (arith, w.end, h.2, wrote-length (omega (arith, h.2)) w, decrypted.decrypt-start.auto)))
+    sym (length-take-le _ _ (omega (arith, w.end, h.2, wrote_length (omega (arith, h.2)) w, decrypted.decrypt_start.auto)))
 
 returns : tie.Need-returns
 returns c =
@@ -35,8 +35,8 @@ returns c =
     let a = start.args in
     let n : length a.sk-enc ≡ 32 = search (rules, start.well-formed) in
     in_memory a.suite a.sk-enc a.counter a.ciphertext.now n start.requires.0 a.text.now _ _ _ _ copied.put-bytes.ensures
-    (decrypted.decrypt-start.ensures.0 ∙ simp (encrypted.encrypt-block.ensures, size.key-size.ensures, expanded.expanded.ensures))
-    (simp (encrypted.encrypt-block.ensures, size.key-size.ensures, expanded.expanded.ensures) at decrypted.decrypt-start.ensures.1)
+    (decrypted.decrypt_start.ensures.0 ∙ simp (encrypted.encrypt-block.ensures, size.key_size_lem.ensures, expanded.expanded.ensures))
+    (simp (encrypted.encrypt-block.ensures, size.key_size_lem.ensures, expanded.expanded.ensures) at decrypted.decrypt_start.ensures.1)
     c.unpad.ensures
 
 pub decrypt-some-spec : {M : Type 1} → statement M

@@ -3,9 +3,9 @@ use borrow.Author.Rules.{rules}
 use mathlib.Core.Path.{sym}
 use native.Mathlib.Omega.{arith}
 use lib.Seq.{length-take-le}
-use Rattle.aes.specs.Aes.{invCiph}
-use Rattle.mode_cbc.specs.Cbc.{cbcDecrypt}
-use Rattle.message_encrypt.proofs.StartChanged.{start-changed, length-changed}
+use Rattle.aes.specs.Aes.{inv_ciph}
+use Rattle.mode_cbc.specs.Cbc.{cbc_decrypt}
+use Rattle.message_encrypt.proofs.StartChanged.{start_changed, length_changed}
 use Rattle.message_verify.proofs.decrypt.decrypt_start.Statement.{statement}
 use Rattle.message_verify.proofs.decrypt.decrypt_start.Tie as tie
 
@@ -20,10 +20,10 @@ returns c =
     let start = c.before.before.before.before.before in
     let a = start.args in
     let h = start.requires in
-    let f = cbcDecrypt (invCiph a.size a.w.now) a.iv in
+    let f = cbc_decrypt (inv_ciph a.size a.w.now) a.iv in
     let size = length-take-le a.n a.text.now h.1 in (
-      start-changed f a.text.now _ a.n h.0 h.1 decrypted.ensures.1 (omega (arith, decrypted.auto, size)),
-      length-changed f a.text.now _ a.n h.0 h.1 decrypted.ensures.1 (omega (arith, decrypted.auto, size)),
+      start_changed f a.text.now _ a.n h.0 h.1 decrypted.ensures.1 (omega (arith, decrypted.auto, size)),
+      length_changed f a.text.now _ a.n h.0 h.1 decrypted.ensures.1 (omega (arith, decrypted.auto, size)),
     )
 
 pub decrypt-start-spec : {M : Type 1} → statement M

@@ -4,48 +4,48 @@ use borrow.Author.Tests.{not-true, not-false, lt-leb, le-leb}
 use mathlib.Core.Path.{sym, ◌∙◌}
 use native.Mathlib.Omega.{arith}
 use Rattle.octets.proofs.Tests.{outcome}
-use Rattle.session_rules.proofs.KeepsTheRules.{served-by-phase}
+use Rattle.session_rules.proofs.KeepsTheRules.{served_by_phase}
 use Rattle.message_answer.specs.Answer.{require◌else◌⨾◌}
-use Rattle.message_protocol.specs.Response.{wrapResponseChecks}
+use Rattle.message_protocol.specs.Response.{wrap_response_checks}
 use Rattle.message_wrap_response.proofs.checks.wrap_response_checks.Statement.{statement}
 use Rattle.message_wrap_response.proofs.checks.wrap_response_checks.Tie as tie
 
 returns : tie.Need-returns
-unfolding wrapResponseChecks require◌else◌⨾◌
+unfolding wrap_response_checks require◌else◌⨾◌
 returns c =
     let opened = c.before in
-    rw (served-by-phase _ opened.before.requires ∙ outcome _ opened.is_open.ensures (not-true _ c.if1.true))
+    rw (served_by_phase _ opened.before.requires ∙ outcome _ opened.is_open.ensures (not-true _ c.if1.true))
 
 returns-2 : tie.Need-returns-2
-unfolding wrapResponseChecks require◌else◌⨾◌
+unfolding wrap_response_checks require◌else◌⨾◌
 returns-2 c =
     let turned = c.before in
     let opened = turned.before.before in
     rw (
-      served-by-phase _ opened.before.requires ∙ outcome _ opened.is_open.ensures (not-false _ turned.before.if1.false),
+      served_by_phase _ opened.before.requires ∙ outcome _ opened.is_open.ensures (not-false _ turned.before.if1.false),
       outcome _ turned.is-turn.ensures (not-true _ c.if2.true),
     )
 
 returns-3 : tie.Need-returns-3
-unfolding wrapResponseChecks require◌else◌⨾◌
+unfolding wrap_response_checks require◌else◌⨾◌
 returns-3 c =
     let permitted = c.before in
     let turned = permitted.before.before in
     let opened = turned.before.before in
     rw (
-      served-by-phase _ opened.before.requires ∙ outcome _ opened.is_open.ensures (not-false _ turned.before.if1.false),
+      served_by_phase _ opened.before.requires ∙ outcome _ opened.is_open.ensures (not-false _ turned.before.if1.false),
       outcome _ turned.is-turn.ensures (not-false _ permitted.before.if2.false),
       outcome _ permitted.status-permitted.ensures (not-true _ c.if3.true),
     )
 
 returns-4 : tie.Need-returns-4
-unfolding wrapResponseChecks require◌else◌⨾◌
+unfolding wrap_response_checks require◌else◌⨾◌
 returns-4 c =
     let permitted = c.before.before in
     let turned = permitted.before.before in
     let opened = turned.before.before in
     rw (
-      served-by-phase _ opened.before.requires ∙ outcome _ opened.is_open.ensures (not-false _ turned.before.if1.false),
+      served_by_phase _ opened.before.requires ∙ outcome _ opened.is_open.ensures (not-false _ turned.before.if1.false),
       outcome _ turned.is-turn.ensures (not-false _ permitted.before.if2.false),
       outcome _ permitted.status-permitted.ensures (not-false _ c.before.if3.false),
       lt-leb opened.before.args.n 16383 c.if4.true,
@@ -55,7 +55,7 @@ response-length-requires : tie.Need-response-length-requires
 response-length-requires c κs = omega (arith, c.if4.false)
 
 returns-5 : tie.Need-returns-5
-unfolding wrapResponseChecks require◌else◌⨾◌
+unfolding wrap_response_checks require◌else◌⨾◌
 returns-5 c =
     let sized = c.before in
     let short = sized.before in
@@ -63,7 +63,7 @@ returns-5 c =
     let turned = permitted.before.before in
     let opened = turned.before.before in
     rw (
-      served-by-phase _ opened.before.requires ∙ outcome _ opened.is_open.ensures (not-false _ turned.before.if1.false),
+      served_by_phase _ opened.before.requires ∙ outcome _ opened.is_open.ensures (not-false _ turned.before.if1.false),
       outcome _ turned.is-turn.ensures (not-false _ permitted.before.if2.false),
       outcome _ permitted.status-permitted.ensures (not-false _ short.before.if3.false),
       le-leb opened.before.args.n 16383 short.if4.false,
@@ -72,7 +72,7 @@ returns-5 c =
     )
 
 returns-6 : tie.Need-returns-6
-unfolding wrapResponseChecks require◌else◌⨾◌
+unfolding wrap_response_checks require◌else◌⨾◌
 returns-6 c =
     let sized = c.before in
     let short = sized.before in
@@ -80,7 +80,7 @@ returns-6 c =
     let turned = permitted.before.before in
     let opened = turned.before.before in
     rw (
-      served-by-phase _ opened.before.requires ∙ outcome _ opened.is_open.ensures (not-false _ turned.before.if1.false),
+      served_by_phase _ opened.before.requires ∙ outcome _ opened.is_open.ensures (not-false _ turned.before.if1.false),
       outcome _ turned.is-turn.ensures (not-false _ permitted.before.if2.false),
       outcome _ permitted.status-permitted.ensures (not-false _ short.before.if3.false),
       le-leb opened.before.args.n 16383 short.if4.false,

@@ -5,7 +5,7 @@ use native.Mathlib.Omega.{arith}
 use Rattle.octets.specs.Bytes.{Bytes, ◌xor◌}
 use Rattle.aes.specs.Aes.{ciph}
 use Rattle.mode_cmac.specs.declared.Cmac.{Cmac}
-use Rattle.mode_cmac.proofs.BlockByBlock.{flush-open, step_block, step-byte}
+use Rattle.mode_cmac.proofs.BlockByBlock.{flush_open, step_block, step_byte}
 use Rattle.mode_cmac.proofs.Cmac.absorb_some.Statement.{statement}
 use Rattle.mode_cmac.proofs.Cmac.absorb_some.Tie as tie
 
@@ -22,14 +22,14 @@ add-requires : tie.Need-add-requires
 add-requires c κs =
     let before = c.before.before.before in
     let a = before.before.before.args in
-    omega (arith, flush-open (ciph a.size a.w.now) a.self, ap (λ (s : Cmac). s.len) before.flush.ensures)
+    omega (arith, flush_open (ciph a.size a.w.now) a.self, ap (λ (s : Cmac). s.len) before.flush.ensures)
 
 returns-2 : tie.Need-returns-2
 returns-2 c =
     let before = c.before.before.before.before in
     let start = before.before.before in
     let a = start.args in
-    step-byte (ciph a.size a.w.now) a.self before.flush.result c.add.result a.«data».now a.at
+    step_byte (ciph a.size a.w.now) a.self before.flush.result c.add.result a.«data».now a.at
     before.flush.ensures start.requires c.add.ensures
 
 pub absorb-some-spec : {M : Type 1} → statement M

@@ -9,7 +9,7 @@ use native.Mathlib.Omega.{arith}
 use lib.ListN.{length, take, drop, length-drop}
 use lib.Seq.{length-take-le}
 use Rattle.octets.specs.Bytes.{zeros}
-use Rattle.octets.proofs.Writing.{wrote-all, over-full}
+use Rattle.octets.proofs.Writing.{wrote_all, over_full}
 
 returns : tie.Need-returns
 returns c =
@@ -21,7 +21,7 @@ returns c =
       arith,
       c.before.before.before.before.before.requires,
     ))) in
-    rw e at (wrote-all c.before.put-bytes.ensures) ∙ over-full (zeros 32) (take 32 (drop n b)) (omega arith)
+    rw e at (wrote_all c.before.put-bytes.ensures) ∙ over_full (zeros 32) (take 32 (drop n b)) (omega arith)
 
 pub key-at-spec : {M : Type 1} → statement M
 key-at-spec =

@@ -2,10 +2,10 @@
 use borrow.Author.Rules.{rules}
 use Rattle.session_bytes.proofs.read.session_from.Statement.{statement}
 use Rattle.session_bytes.proofs.read.session_from.Tie as tie
-use Rattle.session_bytes.specs.Saved.{sessionFrom}
+use Rattle.session_bytes.specs.Saved.{session_from}
 
 returns : tie.Need-returns
-unfolding sessionFrom
+unfolding session_from
 returns c =
     rw (
       c.block-at2.ensures,

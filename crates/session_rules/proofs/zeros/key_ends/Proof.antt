@@ -7,13 +7,13 @@ use native.Mathlib.Omega.{arith}
 use Prim.Native.Nat.{◌-◌}
 use lib.ListN.{length, drop, length-drop}
 use lib.Seq.{take_all}
-use Rattle.session_rules.specs.ZeroBytes.{allZero}
+use Rattle.session_rules.specs.ZeroBytes.{all_zero}
 
 returns : tie.Need-returns
 returns c =
     let a = c.before.before.before.args in
     let h : length a.t1 ≡ 32 = search rules in
-    c.all-zero.ensures ∙ ap allZero (take_all (32 - a.n) (drop a.n a.t1) (omega (
+    c.all-zero.ensures ∙ ap all_zero (take_all (32 - a.n) (drop a.n a.t1) (omega (
       arith,
       h,
       length-drop a.n a.t1,

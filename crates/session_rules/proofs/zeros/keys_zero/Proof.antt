@@ -3,34 +3,34 @@ use borrow.Author.Rules.{rules}
 use Rattle.session_rules.proofs.zeros.keys_zero.Statement.{statement}
 use Rattle.session_rules.proofs.zeros.keys_zero.Tie as tie
 use Rattle.octets.proofs.Tests.{outcome}
-use Rattle.session_rules.specs.ZeroBytes.{allZero, keysZero}
+use Rattle.session_rules.specs.ZeroBytes.{all_zero, keys_zero}
 
 returns : tie.Need-returns
-unfolding keysZero
+unfolding keys_zero
 returns c =
     let s = c.before.before.before.before.before.before.before.before.before.before.before.args.session in
     rw (
-      outcome (allZero s.sk_enc) c.before.before.before.before.before.before.all-zero.ensures
+      outcome (all_zero s.sk_enc) c.before.before.before.before.before.before.all-zero.ensures
           c.before.before.before.before.before.if1.true,
-      outcome (allZero s.sk_mac) c.before.before.before.all-zero2.ensures c.before.before.if2.true,
+      outcome (all_zero s.sk_mac) c.before.before.before.all-zero2.ensures c.before.before.if2.true,
     )
     c.all-zero3.ensures
 
 returns-2 : tie.Need-returns-2
-unfolding keysZero
+unfolding keys_zero
 returns-2 c =
     let s = c.before.before.before.before.before.before.before.before.before.args.session in
     rw (
-      outcome (allZero s.sk_enc) c.before.before.before.before.all-zero.ensures
+      outcome (all_zero s.sk_enc) c.before.before.before.before.all-zero.ensures
           c.before.before.before.if1.true,
-      outcome (allZero s.sk_mac) c.before.all-zero2.ensures c.if2.false,
+      outcome (all_zero s.sk_mac) c.before.all-zero2.ensures c.if2.false,
     )
 
 returns-3 : tie.Need-returns-3
-unfolding keysZero
+unfolding keys_zero
 returns-3 c =
     let s = c.before.before.before.before.before.before.args.session in
-    rw (outcome (allZero s.sk_enc) c.before.all-zero.ensures c.if1.false)
+    rw (outcome (all_zero s.sk_enc) c.before.all-zero.ensures c.if1.false)
 
 pub keys-zero-spec : {M : Type 1} → statement M
 keys-zero-spec =
