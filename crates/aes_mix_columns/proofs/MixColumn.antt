@@ -36,24 +36,24 @@ pub times_03 : (a : ℕ) → x_times a ⊕ a ≡ 3 • a
 unfolding product ◌•◌
 times_03 a = equal (one a) 1 (plus (by_x (byte 0)) (byte 0)) (by 3 (byte 0)) tt
 
-abbrev by_xXX : Sum
-by_xXX = by_x (by_x (by_x (byte 0)))
+abbrev by_xxx : Sum
+by_xxx = by_x (by_x (by_x (byte 0)))
 
 pub times_09 : (a : ℕ) → x_times (x_times (x_times a)) ⊕ a ≡ 0x09 • a
 unfolding product ◌•◌
-times_09 a = equal (one a) 1 (plus by_xXX (byte 0)) (by 0x09 (byte 0)) tt
+times_09 a = equal (one a) 1 (plus by_xxx (byte 0)) (by 0x09 (byte 0)) tt
 
 pub times_0b : (a : ℕ) → x_times (x_times (x_times a)) ⊕ x_times a ⊕ a ≡ 0x0b • a
 unfolding product ◌•◌
-times_0b a = equal (one a) 1 (plus (plus by_xXX (by_x (byte 0))) (byte 0)) (by 0x0b (byte 0)) tt
+times_0b a = equal (one a) 1 (plus (plus by_xxx (by_x (byte 0))) (byte 0)) (by 0x0b (byte 0)) tt
 
 pub times_0d : (a : ℕ) → x_times (x_times (x_times a)) ⊕ x_times (x_times a) ⊕ a ≡ 0x0d • a
 unfolding product ◌•◌
-times_0d a = equal (one a) 1 (plus (plus by_xXX (by_x (by_x (byte 0)))) (byte 0)) (by 0x0d (byte 0)) tt
+times_0d a = equal (one a) 1 (plus (plus by_xxx (by_x (by_x (byte 0)))) (byte 0)) (by 0x0d (byte 0)) tt
 
 pub times_0e : (a : ℕ) → x_times (x_times (x_times a)) ⊕ x_times (x_times a) ⊕ x_times a ≡ 0x0e • a
 unfolding product ◌•◌
-times_0e a = equal (one a) 1 (plus (plus by_xXX (by_x (by_x (byte 0)))) (by_x (byte 0))) (by 0x0e (byte 0)) tt
+times_0e a = equal (one a) 1 (plus (plus by_xxx (by_x (by_x (byte 0)))) (by_x (byte 0))) (by 0x0e (byte 0)) tt
 
 -- ---- a row of products
 

@@ -4,7 +4,7 @@ use Rattle.octets.specs.Bytes.{Bytes}
 use Rattle.message_answer.specs.Answer.{buffer}
 use Rattle.message_answer.specs.Message.{CommandGiven}
 use Rattle.message_ciphers.specs.Aes.{aes_ciphers}
-use Rattle.message_protocol.specs.Command.{cardUnwraps}
+use Rattle.message_protocol.specs.Command.{card_unwraps}
 use Rattle.message_result.specs.Results.{command_answer}
 use Rattle.capi_values.specs.Values.{command_values}
 use Rattle.capi_session.specs.SessionBytes.{Served, Held, held_in, on_session}
@@ -38,7 +38,7 @@ left number session len payload written le =
 abbrev pub served : Given → Served Held CommandGiven
 served g =
     on_session g.held
-    (λ s. cardUnwraps aes_ciphers s g.ins g.p1 g.p2 g.field (length g.payload))
+    (λ s. card_unwraps aes_ciphers s g.ins g.p1 g.p2 g.field (length g.payload))
 
 abbrev pub leaves : Bytes → Served Held CommandGiven → Left
 leaves before x =

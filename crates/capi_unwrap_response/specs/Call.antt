@@ -4,7 +4,7 @@ use Rattle.octets.specs.Bytes.{Bytes}
 use Rattle.message_answer.specs.Answer.{buffer}
 use Rattle.message_answer.specs.Message.{StatusWord, Response}
 use Rattle.message_ciphers.specs.Aes.{aes_ciphers}
-use Rattle.message_protocol.specs.Response.{hostUnwraps}
+use Rattle.message_protocol.specs.Response.{host_unwraps}
 use Rattle.message_result.specs.Results.{response_answer}
 use Rattle.capi_values.specs.Values.{status_of, response_values}
 use Rattle.capi_session.specs.SessionBytes.{Served, Held, held_in, on_session}
@@ -36,7 +36,7 @@ left number session len payload written status =
 -- the call on the session, and what is held of the session after it
 abbrev pub served : Given → Served Held Response
 served g =
-    on_session g.held (λ s. hostUnwraps aes_ciphers s g.sw g.field (length g.payload))
+    on_session g.held (λ s. host_unwraps aes_ciphers s g.sw g.field (length g.payload))
 
 abbrev pub leaves : Bytes → Served Held Response → Left
 leaves before x =

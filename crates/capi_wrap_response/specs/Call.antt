@@ -4,7 +4,7 @@ use Rattle.octets.specs.Bytes.{Bytes}
 use Rattle.message_answer.specs.Answer.{buffer}
 use Rattle.message_answer.specs.Message.{Response}
 use Rattle.message_ciphers.specs.Aes.{aes_ciphers}
-use Rattle.message_protocol.specs.Response.{cardWraps}
+use Rattle.message_protocol.specs.Response.{card_wraps}
 use Rattle.message_result.specs.Results.{wrap_answer}
 use Rattle.capi_values.specs.Values.{status_of, wrap_values}
 use Rattle.capi_session.specs.SessionBytes.{Served, Held, held_in, on_session}
@@ -34,7 +34,7 @@ left number session len field written =
 
 -- the call on the session, and what is held of the session after it
 abbrev pub served : Given → Served Held Bytes
-served g = on_session g.held (λ s. cardWraps aes_ciphers s g.message (length g.field))
+served g = on_session g.held (λ s. card_wraps aes_ciphers s g.message (length g.field))
 
 abbrev pub leaves : Bytes → Served Held Bytes → Left
 leaves before x =

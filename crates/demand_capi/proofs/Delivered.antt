@@ -22,7 +22,7 @@ use Rattle.message_ciphers.proofs.AesLaws.{aes_mac_length}
 use Rattle.message_answer.specs.Message.{StatusWord, Response, CommandGiven}
 use Rattle.message_answer.specs.Answer.{refused, gave, Out}
 use Rattle.message_protocol.specs.HonestDelivery.{Keyed}
-use Rattle.message_protocol.specs.Response.{hostUnwraps}
+use Rattle.message_protocol.specs.Response.{host_unwraps}
 use Rattle.message_protocol.specs.Transcript.{Call, wrap_command, unwrap_command, wrap_response, unwrap_response, Gives, does}
 use Rattle.message_protocol.proofs.KeysTyped.{keys_typed}
 use Rattle.message_protocol.proofs.LengthsKept.{keeps_lengths}
@@ -110,7 +110,7 @@ delivers_responses w u h c t getsCard getsHost permitted short wrapFits unwrapFi
     let d = demand2_responses h c (response w) (length (wrap_response_given w).field) (length (unwrap_response_given u).payload) i
     (keyed host h t.host_lengths getsHost) permitted short w.met.1.1 wrapFits unwrapFits in
     let unwrapped : ResponseCarried w u d.field → does aes_ciphers h (call host) ≡ record { answer = gave (response w); next = d.host } =
-    λ k. ap₂ (λ (sw : StatusWord) (f : Bytes). hostUnwraps aes_ciphers h sw f (length (unwrap_response_given u).payload)) k.sw k.whole ∙ d.unwraps in
+    λ k. ap₂ (λ (sw : StatusWord) (f : Bytes). host_unwraps aes_ciphers h sw f (length (unwrap_response_given u).payload)) k.sw k.whole ∙ d.unwraps in
     record {
       field = d.field;
       host = d.host;

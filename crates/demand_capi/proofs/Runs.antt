@@ -182,34 +182,34 @@ module _ (h : OpensHost) (c : OpensCard) (alike : OpenedAlike h c) where
   abbrev K : Keys
   K = (open_host_given h).keys
 
-  abbrev hostSuite : ℕ
-  hostSuite = (open_host_given h).suite
+  abbrev host_suite : ℕ
+  host_suite = (open_host_given h).suite
 
-  abbrev cardSuite : ℕ
-  cardSuite = (open_card_given c).suite
+  abbrev card_suite : ℕ
+  card_suite = (open_card_given c).suite
 
   abbrev host : Opened
-  host = opening Host hostSuite K
+  host = opening Host host_suite K
 
   abbrev card : Opened
-  card = opening Card cardSuite K
+  card = opening Card card_suite K
 
   pub host_done : host.answer ≡ Done
   host_done = was_opened host (open_host_given h).session (open_host_left h) (open_host_told h) alike.host
 
   card_told : open_card_left c ≡ leaves_opened (open_card_given c).session card
-  card_told = open_card_told c ∙ ap (λ (k : Keys). leaves_opened (open_card_given c).session (opening Card cardSuite k)) alike.keys
+  card_told = open_card_told c ∙ ap (λ (k : Keys). leaves_opened (open_card_given c).session (opening Card card_suite k)) alike.keys
 
   pub card_done : card.answer ≡ Done
   card_done = was_opened card (open_card_given c).session (open_card_left c) card_told alike.card
 
   pub host_left : opened (open_host_left h) ≡ encode host.session
   host_left =
-      left_by_opening host (open_host_given h).session (open_host_left h) (open_host_told h) alike.host (opening_lengths Host hostSuite K host_done)
+      left_by_opening host (open_host_given h).session (open_host_left h) (open_host_told h) alike.host (opening_lengths Host host_suite K host_done)
 
   pub card_left : opened (open_card_left c) ≡ encode card.session
   card_left =
-      left_by_opening card (open_card_given c).session (open_card_left c) card_told alike.card (opening_lengths Card cardSuite K card_done)
+      left_by_opening card (open_card_given c).session (open_card_left c) card_told alike.card (opening_lengths Card card_suite K card_done)
 
   abbrev starts : State
   starts = start host.session card.session
@@ -217,8 +217,8 @@ module _ (h : OpensHost) (c : OpensCard) (alike : OpenedAlike h c) where
   match_start : Match (begins h c) starts
   match_start =
       record {
-        host = opened_good Host hostSuite K (opened (open_host_left h)) host_done host_left;
-        card = opened_good Card cardSuite K (opened (open_card_left c)) card_done card_left;
+        host = opened_good Host host_suite K (opened (open_host_left h)) host_done host_left;
+        card = opened_good Card card_suite K (opened (open_card_left c)) card_done card_left;
         log = refl;
       }
 
@@ -227,7 +227,7 @@ module _ (h : OpensHost) (c : OpensCard) (alike : OpenedAlike h c) where
   agrees es t n =
       of_run K (begins h c) starts match_start (take n es) (take_trace K n _ es t)
       (subst (λ (cs : List Call). Agrees aes_ciphers K (run aes_ciphers K starts cs).transcript ⊎ ExceptedRun aes_ciphers K starts cs) (take_calls n es)
-      (demand3 hostSuite cardSuite K h.met.1 host_done card_done (calls es) (all_calls_bytes es) n))
+      (demand3 host_suite card_suite K h.met.1 host_done card_done (calls es) (all_calls_bytes es) n))
 
 pub agreement : Agreement
 agreement h c alike es t =

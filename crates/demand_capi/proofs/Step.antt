@@ -20,10 +20,10 @@ use Rattle.message_ciphers.specs.Aes.{aes_ciphers}
 use Rattle.message_ciphers.proofs.AesLaws.{aes_mac_length}
 use Rattle.message_answer.specs.Message.{StatusWord, Response, CommandGiven}
 use Rattle.message_answer.specs.Answer.{Answer, refused, gave, Out, buffer}
-use Rattle.message_protocol.specs.Response.{response_accepted, hostUnwraps}
+use Rattle.message_protocol.specs.Response.{response_accepted, host_unwraps}
 use Rattle.message_protocol.specs.RefusalKeeps.{order}
 use Rattle.message_protocol.specs.Transcript.{Call, wrap_command, unwrap_command, wrap_response, unwrap_response, close, Gives, does}
-use Rattle.message_protocol.proofs.CallCases.{host_unwraps}
+use Rattle.message_protocol.proofs.CallCases.{host_unwraps_lem}
 use Rattle.message_protocol.proofs.RulesKept.{keeps_the_rules}
 use Rattle.message_protocol.proofs.LengthsKept.{keeps_lengths}
 use Rattle.message_protocol.proofs.OpenServed.{hit, met, answers_none_with_1, Serves, stays_open}
@@ -48,10 +48,10 @@ never z = let o : ⊥ = omega arith in absurd o
 
 -- ---- what a call gave
 
-header_kept : (s : Session) (sw : StatusWord) (field : Bytes) (room : ℕ) (m : Response) → (hostUnwraps aes_ciphers s sw field room).answer ≡ gave m → m.header ≡ sw
+header_kept : (s : Session) (sw : StatusWord) (field : Bytes) (room : ℕ) (m : Response) → (host_unwraps aes_ciphers s sw field room).answer ≡ gave m → m.header ≡ sw
 unfolding response_accepted
 header_kept s sw field room =
-    host_unwraps aes_ciphers (λ (out : Out Response). (m : Response) → out.answer ≡ gave m → m.header ≡ sw) s sw field room
+    host_unwraps_lem aes_ciphers (λ (out : Out Response). (m : Response) → out.answer ≡ gave m → m.header ≡ sw) s sw field room
     (λ r m e. never (cc))
     (λ o d read m e. let q : record { header = sw; payload = d } ≡ m = cc in ap (λ (x : Response). x.header) (sym q))
 

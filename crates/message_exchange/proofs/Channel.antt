@@ -10,7 +10,7 @@ use lib.Seq.{append_snoc, take_at}
 use Rattle.octets.specs.Bytes.{Bytes, IsBytes}
 use Rattle.field_laws.specs.Written.{WholeBlocks}
 use Rattle.message_answer.specs.Message.{Message}
-use Rattle.message_exchange.specs.Exchange.{Entry, Log, messages, inputs, Logs, Direction, wrapEntry, field_of, fieldsFrom, wraps, accepts, SameMessages, empty_logs}
+use Rattle.message_exchange.specs.Exchange.{Entry, Log, messages, inputs, Logs, Direction, wrap_entry, field_of, fields_from, wraps, accepts, SameMessages, empty_logs}
 use Rattle.message_exchange.proofs.Places.{messages_append, length_messages, member, AllMade, all_made_snoc, Next, Repeated, place}
 
 -- ---- what is asked of a direction
@@ -26,8 +26,8 @@ module _ {H : Type 0} (D : Direction H) where
   -- ---- fields handed out
 
   fields_snoc : (first place : ℕ) (log : Log H) (e : Entry H) → place ≡ first + length log
-      → fieldsFrom D first (log ++ e ∷ []) ≡ fieldsFrom D first log ++ field_of D place e ∷ []
-  unfolding fieldsFrom
+      → fields_from D first (log ++ e ∷ []) ≡ fields_from D first log ++ field_of D place e ∷ []
+  unfolding fields_from
   fields_snoc first place [] e p = ap (λ (n : ℕ). field_of D n e ∷ []) (let z : first ≡ place = omega (arith, p) in z)
   fields_snoc first place (x ∷ log) e p = ap (field_of D first x ∷◌) (fields_snoc (suc first) place log e (omega (arith, p)))
 
@@ -35,7 +35,7 @@ module _ {H : Type 0} (D : Direction H) where
 
   -- an entry that a wrap added after a log
   pub record Made (log : Log H) (x : Entry H) : Type 0 where
-    pub input_is : x.input ≡ (wrapEntry D x.message log).input
+    pub input_is : x.input ≡ (wrap_entry D x.message log).input
     pub bytes : IsBytes x.message.payload
     pub short : length x.message.payload < 65504
 
@@ -44,10 +44,10 @@ module _ {H : Type 0} (D : Direction H) where
     pub more : Log H
     pub is : l.accepted ++ more ≡ l.wrapped
     pub made : AllMade Made [] l.wrapped
-    pub written : l.fields ≡ fieldsFrom D 1 l.wrapped
+    pub written : l.fields ≡ fields_from D 1 l.wrapped
 
   pub channel_empty : Channel empty_logs
-  unfolding fieldsFrom
+  unfolding fields_from
   channel_empty = record { more = []; is = refl; made = tt; written = refl }
 
   module _ (l : Logs H) (channel : Channel l) where
@@ -61,17 +61,17 @@ module _ {H : Type 0} (D : Direction H) where
         ∙ take_at (messages l.accepted) (messages channel.more) (length l.accepted) (length_messages l.accepted))
 
     pub channel_wraps : (m : Message H) (field : Bytes) → IsBytes m.payload → length m.payload < 65504
-        → field ≡ field_of D (suc (length l.wrapped)) (wrapEntry D m l.wrapped) → Channel (wraps D m field l)
-    unfolding wrapEntry
+        → field ≡ field_of D (suc (length l.wrapped)) (wrap_entry D m l.wrapped) → Channel (wraps D m field l)
+    unfolding wrap_entry
     channel_wraps m field y short is =
-        let x : Entry H = wrapEntry D m l.wrapped in
+        let x : Entry H = wrap_entry D m l.wrapped in
         record {
           more = channel.more ++ x ∷ [];
           is = sym (append_assoc l.accepted channel.more (x ∷ [])) ∙ ap (λ (log : Log H). log ++ x ∷ []) channel.is;
           made = all_made_snoc Made [] l.wrapped x channel.made (record { input_is = refl; bytes = y; short = short });
           written =
               ap (λ (fs : List Bytes). fs ++ field ∷ []) channel.written
-              ∙ ap (λ (f : Bytes). fieldsFrom D 1 l.wrapped ++ f ∷ []) is
+              ∙ ap (λ (f : Bytes). fields_from D 1 l.wrapped ++ f ∷ []) is
               ∙ sym (fields_snoc 1 (suc (length l.wrapped)) l.wrapped x (omega arith));
         }
 
@@ -91,11 +91,11 @@ module _ {H : Type 0} (D : Direction H) where
       x = record { message = m; input = i }
 
       begins_so : (L : Log H) (y : Entry H) → Made L y → (rest : Bytes) × (y.input ≡ first L ++ rest)
-      unfolding wrapEntry
+      unfolding wrap_entry
       begins_so L y made = let b = law.begins L y.message.header _ in (b.0, made.input_is ∙ b.1)
 
       took : Next Made A channel.more i → Channel (accepts x l)
-      unfolding wrapEntry
+      unfolding wrap_entry
       took t =
           record {
             more = t.more;

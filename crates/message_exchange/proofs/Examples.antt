@@ -8,7 +8,7 @@ use Rattle.octets.specs.Bytes.{Bytes, zeros}
 use Rattle.field_ber_length.specs.Length.{length_field}
 use Rattle.field_write.specs.Objects.{object, mac_object}
 use Rattle.message_answer.specs.Message.{Message}
-use Rattle.message_exchange.specs.Exchange.{Entry, Logs, Direction, wrapEntry, field_of, fieldsFrom, wraps, accepts, empty_logs, Transcript, Agrees}
+use Rattle.message_exchange.specs.Exchange.{Entry, Logs, Direction, wrap_entry, field_of, fields_from, wraps, accepts, empty_logs, Transcript, Agrees}
 
 -- the data with its place before it, objects with the header before them, an input with the log's length before it, and a MAC that is the input
 toy : Direction ℕ
@@ -43,14 +43,14 @@ outstanding : Bytes → Transcript ℕ ℕ
 outstanding field = record { commands = wraps toy m2 field one; responses = one }
 
 record Computed : Type 0 where
-  first_entry : wrapEntry toy m1 [] ≡ x1
-  second_entry : wrapEntry toy m2 (x1 ∷ []) ≡ record { message = m2; input = 1 ∷ 6 ∷ 2 ∷ 9 ∷ [] }
-  fields : fieldsFrom toy 1 (x1 ∷ wrapEntry toy m2 (x1 ∷ []) ∷ []) ≡ field1 ∷ field2 ∷ []
+  first_entry : wrap_entry toy m1 [] ≡ x1
+  second_entry : wrap_entry toy m2 (x1 ∷ []) ≡ record { message = m2; input = 1 ∷ 6 ∷ 2 ∷ 9 ∷ [] }
+  fields : fields_from toy 1 (x1 ∷ wrap_entry toy m2 (x1 ∷ []) ∷ []) ≡ field1 ∷ field2 ∷ []
   agrees : Agrees toy toy (outstanding field2)
   field_differs : Agrees toy toy (outstanding field1) → ⊥
 
 computed : Computed
-unfolding length_field object mac_object wrapEntry field_of fieldsFrom toy m1 m2 field1 field2 x1 one outstanding
+unfolding length_field object mac_object wrap_entry field_of fields_from toy m1 m2 field1 field2 x1 one outstanding
 computed =
     record {
       first_entry = refl;

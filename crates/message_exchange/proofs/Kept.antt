@@ -6,7 +6,7 @@ use native.Mathlib.Omega.{arith}
 use lib.ListN.{length, length-append}
 use Rattle.octets.specs.Bytes.{Bytes}
 use Rattle.message_answer.specs.Message.{Message}
-use Rattle.message_exchange.specs.Exchange.{Entry, Direction, wrapEntry, wraps, accepts, Transcript, empty, Agrees}
+use Rattle.message_exchange.specs.Exchange.{Entry, Direction, wrap_entry, wraps, accepts, Transcript, empty, Agrees}
 use Rattle.message_exchange.proofs.Channel.{Channel, channel_empty, channel_length, channel_messages}
 
 module _ {H R : Type 0} (commands : Direction H) (responses : Direction R) where
@@ -34,13 +34,13 @@ module _ {H R : Type 0} (commands : Direction H) (responses : Direction R) where
       }
 
   -- a command is wrapped when each has its response
-  pub command_wrapped : (t : Transcript H R) (m : Message H) (field : Bytes) → Kept t
+  pub command_wrapped_lem : (t : Transcript H R) (m : Message H) (field : Bytes) → Kept t
       → length t.commands.wrapped ≡ length t.responses.accepted → Channel commands (wraps commands m field t.commands)
       → Kept (record { commands = wraps commands m field t.commands; responses = t.responses })
-  command_wrapped t m field v n e =
+  command_wrapped_lem t m field v n e =
       record {
         s≤a = v.s≤a;
-        w≤r+1 = omega (arith, n, length-append t.commands.wrapped (wrapEntry commands m t.commands.wrapped ∷ []));
+        w≤r+1 = omega (arith, n, length-append t.commands.wrapped (wrap_entry commands m t.commands.wrapped ∷ []));
         command_channel = e;
         response_channel = v.response_channel;
       }
@@ -56,12 +56,12 @@ module _ {H R : Type 0} (commands : Direction H) (responses : Direction R) where
       }
 
   -- a response is wrapped when an accepted command has none
-  pub response_wrapped : (t : Transcript H R) (m : Message R) (field : Bytes) → Kept t
+  pub response_wrapped_lem : (t : Transcript H R) (m : Message R) (field : Bytes) → Kept t
       → length t.commands.accepted ≡ suc (length t.responses.wrapped) → Channel responses (wraps responses m field t.responses)
       → Kept (record { commands = t.commands; responses = wraps responses m field t.responses })
-  response_wrapped t m field v n e =
+  response_wrapped_lem t m field v n e =
       record {
-        s≤a = omega (arith, n, length-append t.responses.wrapped (wrapEntry responses m t.responses.wrapped ∷ []));
+        s≤a = omega (arith, n, length-append t.responses.wrapped (wrap_entry responses m t.responses.wrapped ∷ []));
         w≤r+1 = v.w≤r+1;
         command_channel = v.command_channel;
         response_channel = e;

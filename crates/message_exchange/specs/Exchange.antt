@@ -41,26 +41,26 @@ pub record Direction (H : Type 0) : Type 0 where
 
 module _ {H : Type 0} (D : Direction H) where
   -- the objects that the wrap of a message at a place makes
-  abbrev pub objectsAt : ℕ → Message H → Bytes
-  objectsAt place m = D.objects m.header (D.encrypt place m.payload)
+  abbrev pub objects_at : ℕ → Message H → Bytes
+  objects_at place m = D.objects m.header (D.encrypt place m.payload)
 
   -- a wrap after a log: its input is of the objects that it makes
-  unfoldable pub wrapEntry : Message H → Log H → Entry H
-  wrapEntry m log = record { message = m; input = D.input log m.header (objectsAt (suc (length log)) m) }
+  unfoldable pub wrap_entry : Message H → Log H → Entry H
+  wrap_entry m log = record { message = m; input = D.input log m.header (objects_at (suc (length log)) m) }
 
   -- the field of an entry: the objects, and '8E' with the first 8 bytes of the input's full MAC
   unfoldable pub field_of : ℕ → Entry H → Bytes
-  field_of place e = objectsAt place e.message ++ mac_object (take 8 (D.mac e.input))
+  field_of place e = objects_at place e.message ++ mac_object (take 8 (D.mac e.input))
 
   -- the fields of a log whose first entry stands at that place
-  unfoldable pub fieldsFrom : ℕ → Log H → List Bytes
-  fieldsFrom place [] = []
-  fieldsFrom place (e ∷ log) = field_of place e ∷ fieldsFrom (suc place) log
+  unfoldable pub fields_from : ℕ → Log H → List Bytes
+  fields_from place [] = []
+  fields_from place (e ∷ log) = field_of place e ∷ fields_from (suc place) log
 
   -- what a wrap adds, with the field that it handed out
   abbrev pub wraps : Message H → Bytes → Logs H → Logs H
   wraps m field l =
-      let e = wrapEntry m l.wrapped in
+      let e = wrap_entry m l.wrapped in
       record { wrapped = l.wrapped ++ e ∷ []; fields = l.fields ++ field ∷ []; accepted = l.accepted }
 
 -- what an unwrap adds
@@ -92,5 +92,5 @@ pub record Agrees {H R : Type 0} (commands : Direction H) (responses : Direction
   pub w≤r+1 : length t.commands.wrapped ≤ length t.responses.accepted + 1
   pub commands_agree : SameMessages t.commands
   pub responses_agree : SameMessages t.responses
-  pub commands_written : t.commands.fields ≡ fieldsFrom commands 1 t.commands.wrapped
-  pub responses_written : t.responses.fields ≡ fieldsFrom responses 1 t.responses.wrapped
+  pub commands_written : t.commands.fields ≡ fields_from commands 1 t.commands.wrapped
+  pub responses_written : t.responses.fields ≡ fields_from responses 1 t.responses.wrapped

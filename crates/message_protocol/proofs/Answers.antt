@@ -38,8 +38,8 @@ use Rattle.message_answer.specs.Answer.{Answer, refused, gave, Out, require◌el
 use Rattle.message_answer.specs.Outcome.{after_refusal}
 use Rattle.message_verify.specs.Reading.{objects_of, text_of}
 use Rattle.message_verify.specs.VerifiedText.{verified_text}
-use Rattle.message_protocol.specs.Command.{command_input, wrap_command_checks, unwrap_command_checks, commandMac, command_accepted, open_command, cardUnwraps}
-use Rattle.message_protocol.specs.Response.{wrap_response_checks, unwrap_response_checks, responseMac, response_accepted, open_response, hostUnwraps}
+use Rattle.message_protocol.specs.Command.{command_input, wrap_command_checks, unwrap_command_checks, command_mac, command_accepted, open_command, card_unwraps}
+use Rattle.message_protocol.specs.Response.{wrap_response_checks, unwrap_response_checks, response_mac, response_accepted, open_response, host_unwraps}
 
 -- number and extra; nothing where the call is not refused
 numbers : {A : Type 0} → Answer A → List ℕ
@@ -81,10 +81,10 @@ phase_of : Session → List ℕ
 phase_of s = s.count ∷ (if counts_as_open s then 1 else 0) ∷ []
 
 card : Bytes → ℕ → Out CommandGiven
-card f room = cardUnwraps bad (at Card Ready 3) 0x20 0 0 f room
+card f room = card_unwraps bad (at Card Ready 3) 0x20 0 0 f room
 
 host : Bytes → ℕ → Out Response
-host f room = hostUnwraps bad (at Host Pending 3) sw f room
+host f room = host_unwraps bad (at Host Pending 3) sw f room
 
 record Answered : Type 0 where
   counter_1 : command_counter 1 ≡ zeros 15 ++ 1 ∷ []
@@ -115,9 +115,9 @@ record Answered : Type 0 where
   u7 : numbers (card (0x97 ∷ []) 0).answer ≡ 7 ∷ 0 ∷ []
   u8 : numbers (card [] 0).answer ≡ 8 ∷ 0 ∷ []
   -- VERIFY with '97', GET DATA without it, CHANGE REFERENCE DATA without data
-  u7_le : numbers (cardUnwraps bad (at Card Ready 3) 0x20 0 0 (command_field [] true (zeros 8)) 0).answer ≡ 7 ∷ 0 ∷ []
-  u8_le : numbers (cardUnwraps bad (at Card Ready 3) 0xCB 0 0 (field 0) 0).answer ≡ 8 ∷ 0 ∷ []
-  u8_data : numbers (cardUnwraps bad (at Card Ready 3) 0x24 0 0 (command_field [] false (zeros 8)) 0).answer ≡ 8 ∷ 0 ∷ []
+  u7_le : numbers (card_unwraps bad (at Card Ready 3) 0x20 0 0 (command_field [] true (zeros 8)) 0).answer ≡ 7 ∷ 0 ∷ []
+  u8_le : numbers (card_unwraps bad (at Card Ready 3) 0xCB 0 0 (field 0) 0).answer ≡ 8 ∷ 0 ∷ []
+  u8_data : numbers (card_unwraps bad (at Card Ready 3) 0x24 0 0 (command_field [] false (zeros 8)) 0).answer ≡ 8 ∷ 0 ∷ []
   u6 : numbers (card (field 1) 15).answer ≡ 6 ∷ 16 ∷ []
   u9 : numbers (card (field 1) 16).answer ≡ 9 ∷ 0 ∷ []
   u10 : numbers (card (field 0) 16).answer ≡ 10 ∷ 0 ∷ []
@@ -146,7 +146,7 @@ record Answered : Type 0 where
   x10_left : phase_of (host (reply 0) 16).next ≡ 0 ∷ 0 ∷ []
 
 answered : Answered
-unfolding numbers at head bad sw field reply phase_of card host same padding pad padded_length marked mark_before unpad length_field read_length is_shortest rank allowed right_size right_second right_value need◌else◌⨾◌ with_length read_object notedObject ended on_object walk read_field object encrypted_data le_object status_word mac_object command_objects response_objects command_field response_field ciphertext_length encrypted_data_length command_length response_length encoded_header command_mac_input response_mac_input all_zero keys_end keys_zero mcvs_zero keeps_phase valid counts_as_open is_turn ins_permitted le_need data_need command_permitted status_permitted command_wanted response_wanted big_endian command_counter response_counter require◌else◌⨾◌ ◌and-then◌ after_refusal concluded objects_of text_of verified_text command_input wrap_command_checks unwrap_command_checks commandMac command_accepted open_command cardUnwraps wrap_response_checks unwrap_response_checks responseMac response_accepted open_response hostUnwraps
+unfolding numbers at head bad sw field reply phase_of card host same padding pad padded_length marked mark_before unpad length_field read_length is_shortest rank allowed right_size right_second right_value need◌else◌⨾◌ with_length read_object notedObject ended on_object walk read_field object encrypted_data le_object status_word mac_object command_objects response_objects command_field response_field ciphertext_length encrypted_data_length command_length response_length encoded_header command_mac_input response_mac_input all_zero keys_end keys_zero mcvs_zero keeps_phase valid counts_as_open is_turn ins_permitted le_need data_need command_permitted status_permitted command_wanted response_wanted big_endian command_counter response_counter require◌else◌⨾◌ ◌and-then◌ after_refusal concluded objects_of text_of verified_text command_input wrap_command_checks unwrap_command_checks command_mac command_accepted open_command card_unwraps wrap_response_checks unwrap_response_checks response_mac response_accepted open_response host_unwraps
 answered =
     record {
       counter_1 = refl;

@@ -29,8 +29,8 @@ use Rattle.message_counter.specs.Counter.{command_counter, response_counter}
 use Rattle.message_answer.specs.Answer.{Answer, refused, gave, ◌and-then◌, Outcome, Out, concluded, not_given, given}
 use Rattle.message_verify.specs.Reading.{objects_of}
 use Rattle.message_verify.proofs.Stages.{objects_gave, verified_gave}
-use Rattle.message_protocol.specs.Command.{wrap_command_checks, unwrap_command_checks, commandMac, commandCiphertext, commandWrapped, command_accepted, header_read, hostWraps, open_command, cardUnwraps}
-use Rattle.message_protocol.specs.Response.{wrap_response_checks, unwrap_response_checks, responseMac, responseCiphertext, responseWrapped, response_accepted, cardWraps, open_response, hostUnwraps}
+use Rattle.message_protocol.specs.Command.{wrap_command_checks, unwrap_command_checks, command_mac, command_ciphertext, command_wrapped, command_accepted, header_read, host_wraps, open_command, card_unwraps}
+use Rattle.message_protocol.specs.Response.{wrap_response_checks, unwrap_response_checks, response_mac, response_ciphertext, response_wrapped, response_accepted, card_wraps, open_response, host_unwraps}
 
 -- ---- stages
 
@@ -127,19 +127,19 @@ module _ (C : Ciphers) where
   abbrev pub Refuses : {A : Type 0} → (Out A → Type 0) → Session → Type 0
   Refuses Q s = (r : Refusal) → Q (not_given s r)
 
-  pub host_wraps : (Q : Out Bytes → Type 0) (s : Session) (m : Command) (room : ℕ) → Refuses Q s
-      → (MayWrapCommand s m.header (length m.payload) room → Q (given (commandWrapped C s m.header (commandCiphertext C s m.payload))))
-      → Q (hostWraps C s m room)
-  unfolding hostWraps concluded
-  host_wraps Q s m room stop go =
+  pub host_wraps_lem : (Q : Out Bytes → Type 0) (s : Session) (m : Command) (room : ℕ) → Refuses Q s
+      → (MayWrapCommand s m.header (length m.payload) room → Q (given (command_wrapped C s m.header (command_ciphertext C s m.payload))))
+      → Q (host_wraps C s m room)
+  unfolding host_wraps concluded
+  host_wraps_lem Q s m room stop go =
       then_case (λ (a : Answer (Outcome Bytes)). Q (concluded s a)) (wrap_command_checks s m.header (length m.payload) room) _ (λ r e. stop r)
       (λ u e. go (may_wrap_command s m.header (length m.payload) room u e))
 
-  pub card_wraps : (Q : Out Bytes → Type 0) (s : Session) (m : Response) (room : ℕ) → Refuses Q s
-      → (MayWrapResponse s m.header (length m.payload) room → Q (given (responseWrapped C s m.header (responseCiphertext C s m.payload))))
-      → Q (cardWraps C s m room)
-  unfolding cardWraps concluded
-  card_wraps Q s m room stop go =
+  pub card_wraps_lem : (Q : Out Bytes → Type 0) (s : Session) (m : Response) (room : ℕ) → Refuses Q s
+      → (MayWrapResponse s m.header (length m.payload) room → Q (given (response_wrapped C s m.header (response_ciphertext C s m.payload))))
+      → Q (card_wraps C s m room)
+  unfolding card_wraps concluded
+  card_wraps_lem Q s m room stop go =
       then_case (λ (a : Answer (Outcome Bytes)). Q (concluded s a)) (wrap_response_checks s m.header (length m.payload) room) _ (λ r e. stop r)
       (λ u e. go (may_wrap_response s m.header (length m.payload) room u e))
 
@@ -148,15 +148,15 @@ module _ (C : Ciphers) where
     pub may : MayUnwrapCommand s ins (length field)
     pub read : read_field (command_wanted ins) field ≡ Read o
     pub fits : length (ciphertext_of field o) ≤ room
-    pub right : mac_of field o ≡ take 8 (commandMac C s (header_read ins p1 p2 o) (covered_of field o))
+    pub right : mac_of field o ≡ take 8 (command_mac C s (header_read ins p1 p2 o) (covered_of field o))
     pub text : C.decrypt (key_in s.suite s.sk_enc) (command_counter (s.count + 1)) (ciphertext_of field o) ≡ some d
 
-  pub card_unwraps : (Q : Out CommandGiven → Type 0) (s : Session) (ins p1 p2 : ℕ) (field : Bytes) (room : ℕ) → Refuses Q s
+  pub card_unwraps_lem : (Q : Out CommandGiven → Type 0) (s : Session) (ins p1 p2 : ℕ) (field : Bytes) (room : ℕ) → Refuses Q s
       → ((o : Objects) (d : Bytes) → CommandRead s ins p1 p2 field room o d
-      → Q (given (command_accepted s o.second (commandMac C s (header_read ins p1 p2 o) (covered_of field o)) d)))
-      → Q (cardUnwraps C s ins p1 p2 field room)
-  unfolding open_command cardUnwraps concluded
-  card_unwraps Q s ins p1 p2 field room stop go =
+      → Q (given (command_accepted s o.second (command_mac C s (header_read ins p1 p2 o) (covered_of field o)) d)))
+      → Q (card_unwraps C s ins p1 p2 field room)
+  unfolding open_command card_unwraps concluded
+  card_unwraps_lem Q s ins p1 p2 field room stop go =
       unwrap_case (λ (a : Answer (Outcome CommandGiven)). Q (concluded s a))
       (unwrap_command_checks s ins (length field)) (read_field (command_wanted ins) field) _ _ stop (λ u o d e f g.
       let passed = verified_gave C _ _ _ _ room d g in
@@ -166,14 +166,14 @@ module _ (C : Ciphers) where
     pub may : MayUnwrapResponse s sw (length field)
     pub read : read_field (response_wanted sw) field ≡ Read o
     pub fits : length (ciphertext_of field o) ≤ room
-    pub right : mac_of field o ≡ take 8 (responseMac C s (covered_of field o))
+    pub right : mac_of field o ≡ take 8 (response_mac C s (covered_of field o))
     pub text : C.decrypt (key_in s.suite s.sk_enc) (response_counter s.count) (ciphertext_of field o) ≡ some d
 
-  pub host_unwraps : (Q : Out Response → Type 0) (s : Session) (sw : StatusWord) (field : Bytes) (room : ℕ) → Refuses Q s
-      → ((o : Objects) (d : Bytes) → ResponseRead s sw field room o d → Q (given (response_accepted s sw (responseMac C s (covered_of field o)) d)))
-      → Q (hostUnwraps C s sw field room)
-  unfolding open_response hostUnwraps concluded
-  host_unwraps Q s sw field room stop go =
+  pub host_unwraps_lem : (Q : Out Response → Type 0) (s : Session) (sw : StatusWord) (field : Bytes) (room : ℕ) → Refuses Q s
+      → ((o : Objects) (d : Bytes) → ResponseRead s sw field room o d → Q (given (response_accepted s sw (response_mac C s (covered_of field o)) d)))
+      → Q (host_unwraps C s sw field room)
+  unfolding open_response host_unwraps concluded
+  host_unwraps_lem Q s sw field room stop go =
       unwrap_case (λ (a : Answer (Outcome Response)). Q (concluded s a))
       (unwrap_response_checks s sw (length field)) (read_field (response_wanted sw) field) _ _ stop (λ u o d e f g.
       let passed = verified_gave C _ _ _ _ room d g in

@@ -9,7 +9,7 @@ use Rattle.octets.specs.Bytes.{Bytes, zeros}
 use Rattle.message_ciphers.specs.Ciphers.{Ciphers, Laws, IsKey}
 use Rattle.message_exchange.specs.Exchange.{Entry, Log, inputs}
 use Rattle.message_exchange.proofs.Places.{Repeated}
-use Rattle.message_protocol.specs.Transcript.{chainingValues, chaining}
+use Rattle.message_protocol.specs.Transcript.{chaining_values, chaining}
 use Rattle.message_protocol.specs.Agreement.{Collision}
 
 module _ {H : Type 0} (C : Ciphers) (key : Bytes) where
@@ -29,11 +29,11 @@ module _ {H : Type 0} (C : Ciphers) (key : Bytes) where
 
   -- after an entry it is the full MAC of the entry's input
   pub chaining_snoc : (log : Log H) (e : Entry H) → chaining C key (log ++ e ∷ []) ≡ C.mac key e.input
-  unfolding chaining chainingValues
+  unfolding chaining chaining_values
   chaining_snoc log e = last_snoc (zeros 16) log e
 
   pub chaining_length : Laws C → IsKey key → (log : Log H) → length (chaining C key log) ≡ 16
-  unfolding chaining chainingValues
+  unfolding chaining chaining_values
   chaining_length L g log = last_length L g (zeros 16) log refl
 
   -- two parts of a log, of different lengths, with the same chaining value after them
@@ -41,12 +41,12 @@ module _ {H : Type 0} (C : Ciphers) (key : Bytes) where
   collide L A ys zs W l a lt e =
       record { i = length L; j = length A; i<j = lt; within = inside A zs W a; equal = at L ys W l ∙ e ∙ sym (at A zs W a) }
     where
-      at : (A zs W : Log H) → A ++ zs ≡ W → get_or (chainingValues C key (inputs W)) (length A) [] ≡ chaining C key A
-      at A zs W a = unfold chaining chainingValues in (rw (← a) (last_at (zeros 16) A zs))
+      at : (A zs W : Log H) → A ++ zs ≡ W → get_or (chaining_values C key (inputs W)) (length A) [] ≡ chaining C key A
+      at A zs W a = unfold chaining chaining_values in (rw (← a) (last_at (zeros 16) A zs))
 
-      inside : (A zs W : Log H) → A ++ zs ≡ W → length A < length (chainingValues C key (inputs W))
+      inside : (A zs W : Log H) → A ++ zs ≡ W → length A < length (chaining_values C key (inputs W))
       inside A zs W a =
-          unfold chainingValues in (rw (length-map (inputs W) (C.mac key), length-map W (λ e. e.input)) (omega (arith, simp length-append at (ap length a))))
+          unfold chaining_values in (rw (length-map (inputs W) (C.mac key), length-map W (λ e. e.input)) (omega (arith, simp length-append at (ap length a))))
 
   pub collision : (A zs W : Log H) → A ++ zs ≡ W → Repeated (chaining C key) A W → Collision C key (inputs W)
   collision A zs W a r = by (dec_lt (length r.left) (length A))

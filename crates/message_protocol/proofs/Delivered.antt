@@ -46,8 +46,8 @@ use Rattle.message_answer.proofs.Required.{pass}
 use Rattle.message_verify.specs.Reading.{objects_of}
 use Rattle.message_verify.specs.VerifiedText.{received_in, verified_text}
 use Rattle.message_verify.proofs.Stages.{gave_verified}
-use Rattle.message_protocol.specs.Command.{wrap_command_checks, unwrap_command_checks, command_input, commandMac, commandCiphertext, commandWrapped, command_accepted, header_read, hostWraps, open_command, cardUnwraps}
-use Rattle.message_protocol.specs.Response.{wrap_response_checks, unwrap_response_checks, responseMac, responseCiphertext, responseWrapped, response_accepted, cardWraps, open_response, hostUnwraps}
+use Rattle.message_protocol.specs.Command.{wrap_command_checks, unwrap_command_checks, command_input, command_mac, command_ciphertext, command_wrapped, command_accepted, header_read, host_wraps, open_command, card_unwraps}
+use Rattle.message_protocol.specs.Response.{wrap_response_checks, unwrap_response_checks, response_mac, response_ciphertext, response_wrapped, response_accepted, card_wraps, open_response, host_unwraps}
 use Rattle.message_protocol.specs.HonestDelivery.{InStep, Keyed, CommandDelivered, DeliversCommands, ResponseDelivered, DeliversResponses, OpensInStep}
 use Rattle.session_rules.proofs.KeepsTheRules.{opening_served, command_served, response_served}
 use Rattle.message_protocol.proofs.Directions.{command_counter_is, response_counter_is}
@@ -95,10 +95,10 @@ module _ (C : Ciphers) (L : Laws C) (h c : Session) (m : Command) (wrapRoom unwr
   n = length m.payload
 
   abbrev x : Bytes
-  x = commandCiphertext C h m.payload
+  x = command_ciphertext C h m.payload
 
   abbrev full : Bytes
-  full = commandMac C h m.header (command_objects x m.header.le)
+  full = command_mac C h m.header (command_objects x m.header.le)
 
   abbrev field : Bytes
   field = command_field x m.header.le (take 8 full)
@@ -110,8 +110,8 @@ module _ (C : Ciphers) (L : Laws C) (h c : Session) (m : Command) (wrapRoom unwr
       (pass _ _ _ _ (le-leb n max_command_data fits) (pass _ _ _ _ (lt-ltb h.count command_limit counted)
       (pass _ _ _ _ (le-leb (command_length n m.header.le) wrapRoom wrapFits) refl)))))
 
-  wraps : hostWraps C h m wrapRoom ≡ record { answer = gave field; next = command_taken h full }
-  unfolding hostWraps concluded commandWrapped ◌and-then◌
+  wraps : host_wraps C h m wrapRoom ≡ record { answer = gave field; next = command_taken h full }
+  unfolding host_wraps concluded command_wrapped ◌and-then◌
   wraps = rw wrap_checks
 
   -- what permission says
@@ -126,13 +126,13 @@ module _ (C : Ciphers) (L : Laws C) (h c : Session) (m : Command) (wrapRoom unwr
   data_suits = (both (ins_permitted m.header.ins) (suits (data_need m.header.ins) (ltb 0 n)) permits.0).1
 
   size : length x ≡ ciphertext_length n
-  unfolding commandCiphertext
+  unfolding command_ciphertext
   size =
       L.encrypt_length (key_in h.suite h.sk_enc) (command_counter (h.count + 1)) m.payload keyed.enc
       (command_counter_is (h.count + 1)) bytes
 
   mac_size : length (take 8 full) ≡ 8
-  unfolding commandMac
+  unfolding command_mac
   mac_size =
       let maced = command_input h.command_mcv m.header (command_objects x m.header.le) in
       length-take-le 8 full (omega (arith, L.mac_length (key_in h.suite h.sk_mac) maced keyed.mac))
@@ -166,8 +166,8 @@ module _ (C : Ciphers) (L : Laws C) (h c : Session) (m : Command) (wrapRoom unwr
   header_same : header_read m.header.ins m.header.p1 m.header.p2 o ≡ m.header
   header_same = ap (λ (le : Bool). record { ins = m.header.ins; p1 = m.header.p1; p2 = m.header.p2; le = le }) back.second
 
-  mac_same : commandMac C c (header_read m.header.ins m.header.p1 m.header.p2 o) (covered_of field o) ≡ full
-  unfolding commandMac
+  mac_same : command_mac C c (header_read m.header.ins m.header.p1 m.header.p2 o) (covered_of field o) ≡ full
+  unfolding command_mac
   mac_same =
       ap₂ (λ (head : CommandHeader) (covered : Bytes). C.mac (key_in c.suite c.sk_mac) (command_input c.command_mcv head covered))
       header_same back.covers
@@ -175,7 +175,7 @@ module _ (C : Ciphers) (L : Laws C) (h c : Session) (m : Command) (wrapRoom unwr
       (ap₂ key_in step.suites step.macs) step.command_mcvs
 
   text_same : C.decrypt (key_in c.suite c.sk_enc) (command_counter (c.count + 1)) (ciphertext_of field o) ≡ some m.payload
-  unfolding commandCiphertext
+  unfolding command_ciphertext
   text_same =
       ap₂ (λ (k : Bytes) (i : ℕ). C.decrypt k (command_counter (i + 1)) (ciphertext_of field o)) (ap₂ key_in step.suites step.encs) step.counts
       ∙ ap (C.decrypt (key_in h.suite h.sk_enc) (command_counter (h.count + 1))) back.encrypted
@@ -183,14 +183,14 @@ module _ (C : Ciphers) (L : Laws C) (h c : Session) (m : Command) (wrapRoom unwr
       (command_counter_is (h.count + 1)) bytes
 
   text_given : verified_text C (key_in c.suite c.sk_enc) (command_counter (c.count + 1))
-      (commandMac C c (header_read m.header.ins m.header.p1 m.header.p2 o) (covered_of field o)) (received_in field o) unwrapRoom ≡ gave m.payload
+      (command_mac C c (header_read m.header.ins m.header.p1 m.header.p2 o) (covered_of field o)) (received_in field o) unwrapRoom ≡ gave m.payload
   text_given =
       gave_verified C _ _ _ _ unwrapRoom m.payload
       (record { fits = omega (arith, ap length back.encrypted, size, unwrapFits); right = back.tag ∙ ap (take 8) (sym mac_same); text = text_same })
 
-  unwraps : cardUnwraps C c m.header.ins m.header.p1 m.header.p2 field unwrapRoom
+  unwraps : card_unwraps C c m.header.ins m.header.p1 m.header.p2 field unwrapRoom
       ≡ record { answer = gave (record { payload = m.payload; le = m.header.le }); next = command_taken c full }
-  unfolding open_command cardUnwraps command_accepted concluded ◌and-then◌ objects_of
+  unfolding open_command card_unwraps command_accepted concluded ◌and-then◌ objects_of
   unwraps = rw (unwrap_checks, back.accepted, text_given, mac_same, back.second)
 
   command_delivered : CommandDelivered C h c m wrapRoom unwrapRoom
@@ -231,10 +231,10 @@ module _ (C : Ciphers) (L : Laws C) (h c : Session) (m : Response) (wrapRoom unw
   p = length m.payload
 
   abbrev y : Bytes
-  y = responseCiphertext C c m.payload
+  y = response_ciphertext C c m.payload
 
   abbrev whole : Bytes
-  whole = responseMac C c (response_objects y m.header.sw1 m.header.sw2)
+  whole = response_mac C c (response_objects y m.header.sw1 m.header.sw2)
 
   abbrev sent : Bytes
   sent = response_field y m.header.sw1 m.header.sw2 (take 8 whole)
@@ -245,8 +245,8 @@ module _ (C : Ciphers) (L : Laws C) (h c : Session) (m : Response) (wrapRoom unw
       pass _ _ _ _ step.card_open (pass _ _ _ _ (turn Card Pending c step.card_side step.card_phase) (pass _ _ _ _ permitted
       (pass _ _ _ _ (le-leb p max_response_data fits) (pass _ _ _ _ (le-leb (response_length p) wrapRoom wrapFits) refl))))
 
-  response_wraps : cardWraps C c m wrapRoom ≡ record { answer = gave sent; next = response_taken c whole }
-  unfolding cardWraps concluded responseWrapped ◌and-then◌
+  response_wraps : card_wraps C c m wrapRoom ≡ record { answer = gave sent; next = response_taken c whole }
+  unfolding card_wraps concluded response_wrapped ◌and-then◌
   response_wraps = rw response_wrap_checks
 
   enc_same : key_in c.suite c.sk_enc ≡ key_in h.suite h.sk_enc
@@ -254,7 +254,7 @@ module _ (C : Ciphers) (L : Laws C) (h c : Session) (m : Response) (wrapRoom unw
 
   -- the card's keys are the host's
   response_encrypted : y ≡ C.encrypt (key_in h.suite h.sk_enc) (response_counter h.count) m.payload
-  unfolding responseCiphertext
+  unfolding response_ciphertext
   response_encrypted = ap₂ (λ (k : Bytes) (i : ℕ). C.encrypt k (response_counter i) m.payload) enc_same step.counts
 
   response_size : length y ≡ ciphertext_length p
@@ -264,7 +264,7 @@ module _ (C : Ciphers) (L : Laws C) (h c : Session) (m : Response) (wrapRoom unw
       (response_counter_is h.count) bytes
 
   whole_is : whole ≡ C.mac (key_in h.suite h.sk_rmac) (response_mac_input h.response_mcv (response_objects y m.header.sw1 m.header.sw2))
-  unfolding responseMac
+  unfolding response_mac
   whole_is =
       ap₂ (λ (k mcv : Bytes). C.mac k (response_mac_input mcv (response_objects y m.header.sw1 m.header.sw2)))
       (ap₂ key_in step.suites step.rmacs) step.response_mcvs
@@ -302,8 +302,8 @@ module _ (C : Ciphers) (L : Laws C) (h c : Session) (m : Response) (wrapRoom unw
       (pass _ _ _ _ (le-leb (length sent) 16403
       (omega (arith, length_response_field y p response_size (take 8 whole) response_mac_size m.header.sw1 m.header.sw2, response_short p fits))) refl)))
 
-  whole_same : responseMac C h (covered_of sent q) ≡ whole
-  unfolding responseMac
+  whole_same : response_mac C h (covered_of sent q) ≡ whole
+  unfolding response_mac
   whole_same =
       ap (λ (covered : Bytes). C.mac (key_in h.suite h.sk_rmac) (response_mac_input h.response_mcv covered)) response_back.covers
       ∙ sym whole_is
@@ -315,7 +315,7 @@ module _ (C : Ciphers) (L : Laws C) (h c : Session) (m : Response) (wrapRoom unw
       (response_counter_is h.count) bytes
 
   response_text_given : verified_text C (key_in h.suite h.sk_enc) (response_counter h.count)
-      (responseMac C h (covered_of sent q)) (received_in sent q) unwrapRoom ≡ gave m.payload
+      (response_mac C h (covered_of sent q)) (received_in sent q) unwrapRoom ≡ gave m.payload
   response_text_given =
       gave_verified C _ _ _ _ unwrapRoom m.payload (record {
         fits = omega (arith, ap length response_back.encrypted, response_size, unwrapFits);
@@ -323,8 +323,8 @@ module _ (C : Ciphers) (L : Laws C) (h c : Session) (m : Response) (wrapRoom unw
         text = response_text;
       })
 
-  response_unwraps : hostUnwraps C h m.header sent unwrapRoom ≡ record { answer = gave m; next = response_taken h whole }
-  unfolding open_response hostUnwraps response_accepted concluded ◌and-then◌ objects_of
+  response_unwraps : host_unwraps C h m.header sent unwrapRoom ≡ record { answer = gave m; next = response_taken h whole }
+  unfolding open_response host_unwraps response_accepted concluded ◌and-then◌ objects_of
   response_unwraps = rw (response_unwrap_checks, response_back.accepted, response_text_given, whole_same)
 
   response_delivered : ResponseDelivered C h c m wrapRoom unwrapRoom

@@ -29,11 +29,11 @@ use Rattle.message_ciphers.specs.Ciphers.{Ciphers, Laws, IsKey}
 use Rattle.message_answer.specs.Message.{CommandHeader, StatusWord, Command, Response, CommandGiven}
 use Rattle.message_permission.specs.Permission.{command_wanted, response_wanted}
 use Rattle.message_counter.specs.Counter.{command_counter, response_counter}
-use Rattle.message_protocol.specs.Command.{command_input, commandMac, commandCiphertext, commandWrapped, command_accepted, header_read}
-use Rattle.message_protocol.specs.Response.{responseMac, responseCiphertext, responseWrapped, response_accepted}
-use Rattle.message_protocol.specs.Transcript.{wrap_command, unwrap_command, wrap_response, unwrap_response, Transcript, commands, responses, chaining, command_read, response_read, acceptedCommand, acceptedResponse, noted}
+use Rattle.message_protocol.specs.Command.{command_input, command_mac, command_ciphertext, command_wrapped, command_accepted, header_read}
+use Rattle.message_protocol.specs.Response.{response_mac, response_ciphertext, response_wrapped, response_accepted}
+use Rattle.message_protocol.specs.Transcript.{wrap_command, unwrap_command, wrap_response, unwrap_response, Transcript, commands, responses, chaining, command_read, response_read, accepted_command, accepted_response, noted}
 use Rattle.message_protocol.specs.Agreement.{Collision, Breaks}
-use Rattle.message_exchange.specs.Exchange.{Entry, Log, inputs, wrapEntry, field_of, accepts}
+use Rattle.message_exchange.specs.Exchange.{Entry, Log, inputs, wrap_entry, field_of, accepts}
 use Rattle.message_exchange.proofs.Places.{append_cut, Repeated}
 use Rattle.message_exchange.proofs.Channel.{Channel, channel_wraps, channel_accepts}
 use Rattle.message_exchange.proofs.Kept as kept
@@ -152,34 +152,34 @@ module _ (C : Ciphers) (K : Keys) where
   module _ (h c : Session) (t : Transcript) (m : Command) (room : ℕ) (v : Inv h c t)
       (may : MayWrapCommand h m.header (length m.payload) room) (y : IsBytes m.payload) where
     abbrev w : Entry CommandHeader
-    w = wrapEntry (commands C K) m t.commands.wrapped
+    w = wrap_entry (commands C K) m t.commands.wrapped
 
     host : Live Host h t.commands.wrapped t.responses.accepted
     host = v.host_is may.opened
 
-    command_encrypted : commandCiphertext C h m.payload ≡ (commands C K).encrypt (suc (length t.commands.wrapped)) m.payload
-    unfolding commandCiphertext
+    command_encrypted : command_ciphertext C h m.payload ≡ (commands C K).encrypt (suc (length t.commands.wrapped)) m.payload
+    unfolding command_ciphertext
     command_encrypted =
         ap₂ (λ (k : Bytes) (n : ℕ). C.encrypt k (command_counter n) m.payload) host.enc_is
         (let e : h.count + 1 ≡ suc (length t.commands.wrapped) = omega (arith, host.count_is) in e)
 
-    command_maced : commandMac C h m.header (command_objects (commandCiphertext C h m.payload) m.header.le) ≡ C.mac K.mac w.input
-    unfolding commandMac wrapEntry
+    command_maced : command_mac C h m.header (command_objects (command_ciphertext C h m.payload) m.header.le) ≡ C.mac K.mac w.input
+    unfolding command_mac wrap_entry
     command_maced =
-        ap₂ (λ (k mcv : Bytes). C.mac k (command_input mcv m.header (command_objects (commandCiphertext C h m.payload) m.header.le)))
+        ap₂ (λ (k mcv : Bytes). C.mac k (command_input mcv m.header (command_objects (command_ciphertext C h m.payload) m.header.le)))
         host.mac_is host.command_is
         ∙ ap (λ (x : Bytes). C.mac K.mac ((commands C K).input t.commands.wrapped m.header (command_objects x m.header.le))) command_encrypted
 
-    pub command_wrapped : let o = commandWrapped C h m.header (commandCiphertext C h m.payload) in
+    pub command_wrapped_lem : let o = command_wrapped C h m.header (command_ciphertext C h m.payload) in
         Inv o.next c (noted C K t (wrap_command Host m room) o.gives)
-    unfolding noted wrapEntry field_of commandWrapped command_field
-    command_wrapped =
+    unfolding noted wrap_entry field_of command_wrapped command_field
+    command_wrapped_lem =
         let r : h.phase ≡ Ready = (turn_is Host Ready h may.turn).1 in
         record {
           host_is = λ z. command_live Host h t.commands.wrapped t.responses.accepted w _ host r command_maced;
           card_is = v.card_is;
           keeps =
-              kept.command_wrapped (commands C K) (responses C K) t m _ v.keeps (host.ready_is r)
+              kept.command_wrapped_lem (commands C K) (responses C K) t m _ v.keeps (host.ready_is r)
               (channel_wraps (commands C K) t.commands v.keeps.command_channel m _ y (let n = may.short in omega arith)
               (ap₂ (λ (x mac : Bytes). command_objects x m.header.le ++ mac_object (take 8 mac)) command_encrypted command_maced));
         }
@@ -189,7 +189,7 @@ module _ (C : Ciphers) (K : Keys) where
   module _ (h c : Session) (t : Transcript) (m : Response) (room : ℕ) (v : Inv h c t)
       (may : MayWrapResponse c m.header (length m.payload) room) (y : IsBytes m.payload) where
     abbrev x : Entry StatusWord
-    x = wrapEntry (responses C K) m t.responses.wrapped
+    x = wrap_entry (responses C K) m t.responses.wrapped
 
     card : Live Card c t.commands.accepted t.responses.wrapped
     card = v.card_is may.opened
@@ -197,28 +197,28 @@ module _ (C : Ciphers) (K : Keys) where
     outstanding : length t.commands.accepted ≡ suc (length t.responses.wrapped)
     outstanding = card.pending_is (turn_is Card Pending c may.turn).1
 
-    response_encrypted : responseCiphertext C c m.payload ≡ (responses C K).encrypt (suc (length t.responses.wrapped)) m.payload
-    unfolding responseCiphertext
+    response_encrypted : response_ciphertext C c m.payload ≡ (responses C K).encrypt (suc (length t.responses.wrapped)) m.payload
+    unfolding response_ciphertext
     response_encrypted =
         ap₂ (λ (k : Bytes) (n : ℕ). C.encrypt k (response_counter n) m.payload) card.enc_is (card.count_is ∙ outstanding)
 
-    response_maced : responseMac C c (response_objects (responseCiphertext C c m.payload) m.header.sw1 m.header.sw2) ≡ C.mac K.rmac x.input
-    unfolding responseMac wrapEntry
+    response_maced : response_mac C c (response_objects (response_ciphertext C c m.payload) m.header.sw1 m.header.sw2) ≡ C.mac K.rmac x.input
+    unfolding response_mac wrap_entry
     response_maced =
-        ap₂ (λ (k mcv : Bytes). C.mac k (response_mac_input mcv ((responses C K).objects m.header (responseCiphertext C c m.payload))))
+        ap₂ (λ (k mcv : Bytes). C.mac k (response_mac_input mcv ((responses C K).objects m.header (response_ciphertext C c m.payload))))
         card.rmac_is card.response_is
         ∙ ap (λ (z : Bytes). C.mac K.rmac ((responses C K).input t.responses.wrapped m.header ((responses C K).objects m.header z)))
         response_encrypted
 
-    pub response_wrapped : let o = responseWrapped C c m.header (responseCiphertext C c m.payload) in
+    pub response_wrapped_lem : let o = response_wrapped C c m.header (response_ciphertext C c m.payload) in
         Inv h o.next (noted C K t (wrap_response Card m room) o.gives)
-    unfolding noted wrapEntry field_of responseWrapped response_field
-    response_wrapped =
+    unfolding noted wrap_entry field_of response_wrapped response_field
+    response_wrapped_lem =
         record {
           host_is = v.host_is;
           card_is = λ z. response_live Card c t.commands.accepted t.responses.wrapped x _ card (turn_is Card Pending c may.turn).1 response_maced;
           keeps =
-              kept.response_wrapped (commands C K) (responses C K) t m _ v.keeps outstanding
+              kept.response_wrapped_lem (commands C K) (responses C K) t m _ v.keeps outstanding
               (channel_wraps (responses C K) t.responses v.keeps.response_channel m _ y (let n = may.short in omega arith)
               (ap₂ (λ (z mac : Bytes). response_objects z m.header.sw1 m.header.sw2 ++ mac_object (take 8 mac)) response_encrypted response_maced));
         }
@@ -252,8 +252,8 @@ module _ (C : Ciphers) (K : Keys) where
     card_live : Live Card c A t.responses.wrapped
     card_live = v.card_is read.may.opened
 
-    accepted_maced : commandMac C c (header_read ins p1 p2 o) (covered_of field o) ≡ C.mac K.mac i
-    unfolding commandMac
+    accepted_maced : command_mac C c (header_read ins p1 p2 o) (covered_of field o) ≡ C.mac K.mac i
+    unfolding command_mac
     accepted_maced =
         ap₂ (λ (k mcv : Bytes). C.mac k (command_input mcv (header_read ins p1 p2 o) (covered_of field o))) card_live.mac_is card_live.command_is
 
@@ -263,15 +263,15 @@ module _ (C : Ciphers) (K : Keys) where
         (let e : suc (length A) ≡ c.count + 1 = omega (arith, card_live.count_is) in e)
         ∙ read.text
 
-    entry_is : acceptedCommand C K ins p1 p2 field g A ≡ record { message = m; input = i }
-    unfolding acceptedCommand
+    entry_is : accepted_command C K ins p1 p2 field g A ≡ record { message = m; input = i }
+    unfolding accepted_command
     entry_is =
         ap (λ (q : Objects). record {
           message = m;
           input = command_input (chaining C K.mac A) (header_read ins p1 p2 q) (covered_of field q);
         }) (objects_read_lem ins field o read.read)
 
-    pub command_accepted_lem : let a = command_accepted c o.second (commandMac C c (header_read ins p1 p2 o) (covered_of field o)) d in
+    pub command_accepted_lem : let a = command_accepted c o.second (command_mac C c (header_read ins p1 p2 o) (covered_of field o)) d in
         Inv h a.next (noted C K t (unwrap_command Card ins p1 p2 field room) a.gives) ⊎ Breaks C K t (unwrap_command Card ins p1 p2 field room) a.gives
     unfolding noted command_accepted
     command_accepted_lem =
@@ -280,7 +280,7 @@ module _ (C : Ciphers) (K : Keys) where
       where
         go : Channel (commands C K) (accepts (record { message = m; input = i }) t.commands)
             ⊎ ((Memᴰ i (inputs t.commands.wrapped) → ⊥) ⊎ Repeated (chaining C K.mac) A t.commands.wrapped)
-            → Inv h (command_taken c (commandMac C c (header_read ins p1 p2 o) (covered_of field o))) (noted C K t (unwrap_command Card ins p1 p2 field room) g)
+            → Inv h (command_taken c (command_mac C c (header_read ins p1 p2 o) (covered_of field o))) (noted C K t (unwrap_command Card ins p1 p2 field room) g)
             ⊎ Breaks C K t (unwrap_command Card ins p1 p2 field room) g
         go (inr cause) =
             inr (rw (entry_is, objects_read_lem ins field o read.read) (record {
@@ -315,8 +315,8 @@ module _ (C : Ciphers) (K : Keys) where
     waiting : length t.commands.wrapped ≡ suc (length R)
     waiting = host_live.pending_is (turn_is Host Pending h read.may.turn).1
 
-    response_full : responseMac C h (covered_of field o) ≡ C.mac K.rmac j
-    unfolding responseMac
+    response_full : response_mac C h (covered_of field o) ≡ C.mac K.rmac j
+    unfolding response_mac
     response_full =
         ap₂ (λ (k mcv : Bytes). C.mac k (response_mac_input mcv (covered_of field o))) host_live.rmac_is host_live.response_is
 
@@ -325,13 +325,13 @@ module _ (C : Ciphers) (K : Keys) where
         ap₂ (λ (k : Bytes) (n : ℕ). C.decrypt k (response_counter n) (ciphertext_of field o)) (sym host_live.enc_is) (sym waiting ∙ sym host_live.count_is)
         ∙ read.text
 
-    response_entry : acceptedResponse C K sw field a R ≡ record { message = a; input = j }
-    unfolding acceptedResponse
+    response_entry : accepted_response C K sw field a R ≡ record { message = a; input = j }
+    unfolding accepted_response
     response_entry =
         ap (λ (q : Objects). record { message = a; input = response_mac_input (chaining C K.rmac R) (covered_of field q) })
         (status_read sw field o read.read)
 
-    pub response_accepted_lem : let u = response_accepted h sw (responseMac C h (covered_of field o)) d in
+    pub response_accepted_lem : let u = response_accepted h sw (response_mac C h (covered_of field o)) d in
         Inv u.next c (noted C K t (unwrap_response Host sw field room) u.gives) ⊎ Breaks C K t (unwrap_response Host sw field room) u.gives
     unfolding noted response_accepted
     response_accepted_lem =
@@ -340,7 +340,7 @@ module _ (C : Ciphers) (K : Keys) where
       where
         go : Channel (responses C K) (accepts (record { message = a; input = j }) t.responses)
             ⊎ ((Memᴰ j (inputs t.responses.wrapped) → ⊥) ⊎ Repeated (chaining C K.rmac) R t.responses.wrapped)
-            → Inv (response_taken h (responseMac C h (covered_of field o))) c (noted C K t (unwrap_response Host sw field room) a)
+            → Inv (response_taken h (response_mac C h (covered_of field o))) c (noted C K t (unwrap_response Host sw field room) a)
             ⊎ Breaks C K t (unwrap_response Host sw field room) a
         go (inr cause) =
             inr (rw (response_entry, status_read sw field o read.read) (record {

@@ -17,10 +17,10 @@ use Rattle.message_ciphers.specs.Ciphers.{Ciphers}
 use Rattle.message_answer.specs.Answer.{Answer, refused, gave, require◌else◌⨾◌, Out}
 use Rattle.message_answer.proofs.Required.{not_refused}
 use Rattle.message_answer.proofs.Among.{Among, gave_among, require_among, then_among, concluded_among, first, later}
-use Rattle.message_protocol.specs.Command.{wrap_command_checks, unwrap_command_checks, commandWrapped, command_accepted, hostWraps, open_command, cardUnwraps}
-use Rattle.message_protocol.specs.Response.{wrap_response_checks, unwrap_response_checks, responseWrapped, response_accepted, cardWraps, open_response, hostUnwraps}
+use Rattle.message_protocol.specs.Command.{wrap_command_checks, unwrap_command_checks, command_wrapped, command_accepted, host_wraps, open_command, card_unwraps}
+use Rattle.message_protocol.specs.Response.{wrap_response_checks, unwrap_response_checks, response_wrapped, response_accepted, card_wraps, open_response, host_unwraps}
 use Rattle.message_protocol.specs.Transcript.{Call, wrap_command, unwrap_command, wrap_response, unwrap_response, close, does}
-use Rattle.message_protocol.proofs.CallCases.{turn_is, host_wraps, card_wraps, card_unwraps, host_unwraps}
+use Rattle.message_protocol.proofs.CallCases.{turn_is, host_wraps_lem, card_wraps_lem, card_unwraps_lem, host_unwraps_lem}
 use Rattle.message_protocol.proofs.Refused.{objects_among, verified_among}
 
 -- all numbers of the calls but 1
@@ -82,7 +82,7 @@ Serves (close side) = ⊥
 
 module _ (C : Ciphers) (s : Session) (open_is : counts_as_open s ≡ true) where
   among : (c : Call) → Among others (does C s c).answer
-  unfolding does hostWraps open_command cardUnwraps cardWraps open_response hostUnwraps wrap_command_checks unwrap_command_checks wrap_response_checks unwrap_response_checks
+  unfolding does host_wraps open_command card_unwraps card_wraps open_response host_unwraps wrap_command_checks unwrap_command_checks wrap_response_checks unwrap_response_checks
   among (wrap_command side m room) =
       concluded_among others s _ (then_among others _ _
       (passes _ _ _ open_is
@@ -134,17 +134,17 @@ module _ (C : Ciphers) (s : Session) (open_is : counts_as_open s ≡ true) where
   StaysOpen {A} out = (a : A) → out.answer ≡ gave a → counts_as_open out.next ≡ true
 
   pub stays_open : (c : Call) → Serves c → StaysOpen (does C s c)
-  unfolding does commandWrapped command_accepted responseWrapped response_accepted
+  unfolding does command_wrapped command_accepted response_wrapped response_accepted
   stays_open (wrap_command side m room) u =
-      host_wraps C StaysOpen s m room (λ r a e. not_refused e)
+      host_wraps_lem C StaysOpen s m room (λ r a e. not_refused e)
       (λ may a e. command_served s _ may.opened (turn_is Host Ready s may.turn).1 may.counted)
   stays_open (unwrap_command side ins p1 p2 field room) u =
-      card_unwraps C StaysOpen s ins p1 p2 field room (λ r a e. not_refused e)
+      card_unwraps_lem C StaysOpen s ins p1 p2 field room (λ r a e. not_refused e)
       (λ o d read a e. command_served s _ read.may.opened (turn_is Card Ready s read.may.turn).1 read.may.counted)
   stays_open (wrap_response side m room) u =
-      card_wraps C StaysOpen s m room (λ r a e. not_refused e)
+      card_wraps_lem C StaysOpen s m room (λ r a e. not_refused e)
       (λ may a e. response_served s _ may.opened (turn_is Card Pending s may.turn).1)
   stays_open (unwrap_response side sw field room) u =
-      host_unwraps C StaysOpen s sw field room (λ r a e. not_refused e)
+      host_unwraps_lem C StaysOpen s sw field room (λ r a e. not_refused e)
       (λ o d read a e. response_served s _ read.may.opened (turn_is Host Pending s read.may.turn).1)
   stays_open (close side) u = absurd u

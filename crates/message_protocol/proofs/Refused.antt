@@ -18,8 +18,8 @@ use Rattle.message_answer.proofs.Among.{Among, refused_among, gave_among, requir
 use Rattle.message_answer.proofs.Refusals.{session_closes, session_stays, session_left}
 use Rattle.message_verify.specs.Reading.{objects_of, text_of}
 use Rattle.message_verify.specs.VerifiedText.{Received, verified_text}
-use Rattle.message_protocol.specs.Command.{wrap_command_checks, unwrap_command_checks, hostWraps, open_command, cardUnwraps}
-use Rattle.message_protocol.specs.Response.{wrap_response_checks, unwrap_response_checks, cardWraps, open_response, hostUnwraps}
+use Rattle.message_protocol.specs.Command.{wrap_command_checks, unwrap_command_checks, host_wraps, open_command, card_unwraps}
+use Rattle.message_protocol.specs.Response.{wrap_response_checks, unwrap_response_checks, card_wraps, open_response, host_unwraps}
 use Rattle.message_protocol.specs.Transcript.{Call, wrap_command, unwrap_command, wrap_response, unwrap_response, close, does}
 use Rattle.message_protocol.specs.RefusalKeeps.{order, writes, IsClosed, RefusalKeeps}
 
@@ -45,7 +45,7 @@ verified_among ns C key counter full r room a b c = require_among ns _ _ _ a (re
 
 module _ (C : Ciphers) (s : Session) where
   in_order : (c : Call) → Among (order c) (does C s c).answer
-  unfolding does hostWraps open_command cardUnwraps cardWraps open_response hostUnwraps wrap_command_checks unwrap_command_checks wrap_response_checks unwrap_response_checks
+  unfolding does host_wraps open_command card_unwraps card_wraps open_response host_unwraps wrap_command_checks unwrap_command_checks wrap_response_checks unwrap_response_checks
   in_order (wrap_command side m room) =
       let ns : List ℕ = 1 ∷ 2 ∷ 3 ∷ 4 ∷ 5 ∷ 6 ∷ [] in
       concluded_among ns s _ (then_among ns _ _
@@ -97,7 +97,7 @@ module _ (C : Ciphers) (s : Session) where
   -- ---- what is left
 
   next_is : (c : Call) (r : Refusal) → (does C s c).answer ≡ refused r → (does C s c).next ≡ after_refusal s r
-  unfolding does hostWraps open_command cardUnwraps cardWraps open_response hostUnwraps
+  unfolding does host_wraps open_command card_unwraps card_wraps open_response host_unwraps
   next_is (wrap_command side m room) r e = session_left s _ _ r e
   next_is (unwrap_command side ins p1 p2 field room) r e = session_left s _ _ r e
   next_is (wrap_response side m room) r e = session_left s _ _ r e

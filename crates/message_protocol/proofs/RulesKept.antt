@@ -12,10 +12,10 @@ use Rattle.session_rules.proofs.KeepsTheRules.{closed_valid, command_served, res
 use Rattle.refusal.specs.declared.Refusal.{Refusal}
 use Rattle.message_ciphers.specs.Ciphers.{Ciphers}
 use Rattle.message_answer.specs.Answer.{Out, after_refusal}
-use Rattle.message_protocol.specs.Command.{commandWrapped, command_accepted}
-use Rattle.message_protocol.specs.Response.{responseWrapped, response_accepted}
+use Rattle.message_protocol.specs.Command.{command_wrapped, command_accepted}
+use Rattle.message_protocol.specs.Response.{response_wrapped, response_accepted}
 use Rattle.message_protocol.specs.Transcript.{Call, wrap_command, unwrap_command, wrap_response, unwrap_response, close, does}
-use Rattle.message_protocol.proofs.CallCases.{turn_is, host_wraps, card_wraps, card_unwraps, host_unwraps}
+use Rattle.message_protocol.proofs.CallCases.{turn_is, host_wraps_lem, card_wraps_lem, card_unwraps_lem, host_unwraps_lem}
 use Rattle.message_answer.proofs.Refusals.{after_refusal_lem}
 
 open_valid : (s : Session) → counts_as_open s ≡ true → valid s ≡ true
@@ -30,17 +30,17 @@ module _ (C : Ciphers) (s : Session) (v : valid s ≡ true) where
   refused_valid r = after_refusal_lem closed (λ (t : Session). valid t ≡ true) s r v (closed_valid s)
 
   pub keeps_the_rules : (c : Call) → valid (does C s c).next ≡ true
-  unfolding does commandWrapped command_accepted responseWrapped response_accepted
+  unfolding does command_wrapped command_accepted response_wrapped response_accepted
   keeps_the_rules (wrap_command side m room) =
-      host_wraps C Kept s m room refused_valid
+      host_wraps_lem C Kept s m room refused_valid
       (λ may. open_valid _ (command_served s _ may.opened (turn_is Host Ready s may.turn).1 may.counted))
   keeps_the_rules (unwrap_command side ins p1 p2 field room) =
-      card_unwraps C Kept s ins p1 p2 field room refused_valid
+      card_unwraps_lem C Kept s ins p1 p2 field room refused_valid
       (λ o d read. open_valid _ (command_served s _ read.may.opened (turn_is Card Ready s read.may.turn).1 read.may.counted))
   keeps_the_rules (wrap_response side m room) =
-      card_wraps C Kept s m room refused_valid
+      card_wraps_lem C Kept s m room refused_valid
       (λ may. open_valid _ (response_served s _ may.opened (turn_is Card Pending s may.turn).1))
   keeps_the_rules (unwrap_response side sw field room) =
-      host_unwraps C Kept s sw field room refused_valid
+      host_unwraps_lem C Kept s sw field room refused_valid
       (λ o d read. open_valid _ (response_served s _ read.may.opened (turn_is Host Pending s read.may.turn).1))
   keeps_the_rules (close side) = closed_valid s

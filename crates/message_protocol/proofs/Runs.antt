@@ -24,12 +24,12 @@ use Rattle.session.specs.declared.Opening.TheVariants.{Opened as Done, Refused}
 use Rattle.session.specs.declared.Session.{Session}
 use Rattle.message_ciphers.specs.Ciphers.{Ciphers, Laws}
 use Rattle.message_answer.specs.Answer.{Out, after_refusal}
-use Rattle.message_protocol.specs.Transcript.{Call, wrap_command, unwrap_command, wrap_response, unwrap_response, close, side_of, Gives, does, Transcript, commands, responses, chainingValues, chaining, noted, entered, State, session_at, moved, step, run, start}
+use Rattle.message_protocol.specs.Transcript.{Call, wrap_command, unwrap_command, wrap_response, unwrap_response, close, side_of, Gives, does, Transcript, commands, responses, chaining_values, chaining, noted, entered, State, session_at, moved, step, run, start}
 use Rattle.message_protocol.specs.Agreement.{Agrees, BreaksIn, Excepted, CallBytes, AllBytes, Agreement}
 use Rattle.message_exchange.proofs.Kept.{kept_empty, kept_agrees}
-use Rattle.message_protocol.proofs.CallCases.{turn_is, host_wraps, card_wraps, card_unwraps, host_unwraps}
+use Rattle.message_protocol.proofs.CallCases.{turn_is, host_wraps_lem, card_wraps_lem, card_unwraps_lem, host_unwraps_lem}
 use Rattle.message_answer.proofs.Refusals.{after_refusal_lem}
-use Rattle.message_protocol.proofs.Invariant.{AreKeys, Live, Inv, ready_pending, host_card, closed_shut, command_wrapped, response_wrapped, command_accepted_lem, response_accepted_lem}
+use Rattle.message_protocol.proofs.Invariant.{AreKeys, Live, Inv, ready_pending, host_card, closed_shut, command_wrapped_lem, response_wrapped_lem, command_accepted_lem, response_accepted_lem}
 
 module _ (C : Ciphers) (K : Keys) where
   abbrev Invariant : State → Type 0
@@ -55,31 +55,31 @@ module _ (C : Ciphers) (K : Keys) where
   keep : Laws C → AreKeys K → (st : State) (c : Call) → CallBytes c → Invariant st → Kept st c (does C (session_at st (side_of c)) c)
   unfolding does moved entered noted
   keep L G st (wrap_command Host m room) y v =
-      host_wraps C (Kept st (wrap_command Host m room)) st.host m room (λ r. inl (host_refused st.host st.card st.transcript r v))
-      (λ may. inl (command_wrapped C K st.host st.card st.transcript m room v may y))
+      host_wraps_lem C (Kept st (wrap_command Host m room)) st.host m room (λ r. inl (host_refused st.host st.card st.transcript r v))
+      (λ may. inl (command_wrapped_lem C K st.host st.card st.transcript m room v may y))
   keep L G st (wrap_command Card m room) y v =
-      host_wraps C (Kept st (wrap_command Card m room)) st.card m room (λ r. inl (card_refused st.host st.card st.transcript r v))
+      host_wraps_lem C (Kept st (wrap_command Card m room)) st.card m room (λ r. inl (card_refused st.host st.card st.transcript r v))
       (λ may. host_card (sym (turn_is Host Ready st.card may.turn).0 ∙ (v.card_is may.opened).side_is))
   keep L G st (unwrap_command Host ins p1 p2 field room) y v =
-      card_unwraps C (Kept st (unwrap_command Host ins p1 p2 field room)) st.host ins p1 p2 field room
+      card_unwraps_lem C (Kept st (unwrap_command Host ins p1 p2 field room)) st.host ins p1 p2 field room
       (λ r. inl (host_refused st.host st.card st.transcript r v))
       (λ o d read. host_card (sym (v.host_is read.may.opened).side_is ∙ (turn_is Card Ready st.host read.may.turn).0))
   keep L G st (unwrap_command Card ins p1 p2 field room) y v =
-      card_unwraps C (Kept st (unwrap_command Card ins p1 p2 field room)) st.card ins p1 p2 field room
+      card_unwraps_lem C (Kept st (unwrap_command Card ins p1 p2 field room)) st.card ins p1 p2 field room
       (λ r. inl (card_refused st.host st.card st.transcript r v))
       (λ o d read. command_accepted_lem C K L G st.host st.card st.transcript ins p1 p2 field room o d v read)
   keep L G st (wrap_response Host m room) y v =
-      card_wraps C (Kept st (wrap_response Host m room)) st.host m room (λ r. inl (host_refused st.host st.card st.transcript r v))
+      card_wraps_lem C (Kept st (wrap_response Host m room)) st.host m room (λ r. inl (host_refused st.host st.card st.transcript r v))
       (λ may. host_card (sym (v.host_is may.opened).side_is ∙ (turn_is Card Pending st.host may.turn).0))
   keep L G st (wrap_response Card m room) y v =
-      card_wraps C (Kept st (wrap_response Card m room)) st.card m room (λ r. inl (card_refused st.host st.card st.transcript r v))
-      (λ may. inl (response_wrapped C K st.host st.card st.transcript m room v may y))
+      card_wraps_lem C (Kept st (wrap_response Card m room)) st.card m room (λ r. inl (card_refused st.host st.card st.transcript r v))
+      (λ may. inl (response_wrapped_lem C K st.host st.card st.transcript m room v may y))
   keep L G st (unwrap_response Host sw field room) y v =
-      host_unwraps C (Kept st (unwrap_response Host sw field room)) st.host sw field room
+      host_unwraps_lem C (Kept st (unwrap_response Host sw field room)) st.host sw field room
       (λ r. inl (host_refused st.host st.card st.transcript r v))
       (λ o d read. response_accepted_lem C K L G st.host st.card st.transcript sw field room o d v read)
   keep L G st (unwrap_response Card sw field room) y v =
-      host_unwraps C (Kept st (unwrap_response Card sw field room)) st.card sw field room
+      host_unwraps_lem C (Kept st (unwrap_response Card sw field room)) st.card sw field room
       (λ r. inl (card_refused st.host st.card st.transcript r v))
       (λ o d read. host_card (sym (turn_is Host Pending st.card read.may.turn).0 ∙ (v.card_is read.may.opened).side_is))
   keep L G st (close Host) y v = inl (host_closed st.host st.card st.transcript v)
@@ -135,7 +135,7 @@ are_keys suite K y e =
 
 pub fresh_live : (C : Ciphers) (K : Keys) (side : Side) (suite : Suite) → keys_fit (key_length suite) K ≡ true
     → Live C K side (fresh side suite (stored K.enc) (stored K.mac) (stored K.rmac)) [] []
-unfolding chaining chainingValues
+unfolding chaining chaining_values
 fresh_live C K side suite e =
     let s = fitting (key_length suite) K e in
     record {
@@ -150,13 +150,13 @@ fresh_live C K side suite e =
       pending_is = λ p. ready_pending p;
     }
 
-begins : (C : Ciphers) (K : Keys) (hostSuite cardSuite : Suite) → keys_fit (key_length hostSuite) K ≡ true → keys_fit (key_length cardSuite) K ≡ true
-    → Invariant C K (start (fresh Host hostSuite (stored K.enc) (stored K.mac) (stored K.rmac))
-    (fresh Card cardSuite (stored K.enc) (stored K.mac) (stored K.rmac)))
-begins C K hostSuite cardSuite h c =
+begins : (C : Ciphers) (K : Keys) (host_suite card_suite : Suite) → keys_fit (key_length host_suite) K ≡ true → keys_fit (key_length card_suite) K ≡ true
+    → Invariant C K (start (fresh Host host_suite (stored K.enc) (stored K.mac) (stored K.rmac))
+    (fresh Card card_suite (stored K.enc) (stored K.mac) (stored K.rmac)))
+begins C K host_suite card_suite h c =
     record {
-      host_is = λ e. fresh_live C K Host hostSuite h;
-      card_is = λ e. fresh_live C K Card cardSuite c;
+      host_is = λ e. fresh_live C K Host host_suite h;
+      card_is = λ e. fresh_live C K Card card_suite c;
       keeps = kept_empty (commands C K) (responses C K);
     }
 
@@ -166,9 +166,9 @@ all_take (suc n) [] y = tt
 all_take (suc n) (c ∷ calls) y = (y.0, all_take n calls y.1)
 
 pub agreement : (C : Ciphers) → Laws C → Agreement C
-agreement C L hostSuite cardSuite K k oh oc calls y n =
-    let h : Fresh Host hostSuite K = opened Host hostSuite K oh in
-    let c : Fresh Card cardSuite K = opened Card cardSuite K oc in
+agreement C L host_suite card_suite K k oh oc calls y n =
+    let h : Fresh Host host_suite K = opened Host host_suite K oh in
+    let c : Fresh Card card_suite K = opened Card card_suite K oc in
     runs C K L (are_keys h.suite K k h.fits) (take n calls)
-    (start (opening Host hostSuite K).session (opening Card cardSuite K).session) (all_take n calls y)
+    (start (opening Host host_suite K).session (opening Card card_suite K).session) (all_take n calls y)
     (rw (h.is, c.is) (begins C K h.suite c.suite h.fits c.fits))

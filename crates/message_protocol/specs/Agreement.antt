@@ -12,7 +12,7 @@ use Rattle.message_ciphers.specs.Ciphers.{Ciphers}
 use Rattle.message_answer.specs.Answer.{Answer, refused, gave}
 use Rattle.message_exchange.specs.Exchange as exchange
 use Rattle.message_exchange.specs.Exchange.{inputs}
-use Rattle.message_protocol.specs.Transcript.{Call, wrap_command, unwrap_command, wrap_response, unwrap_response, close, side_of, Gives, does, Transcript, chainingValues, commands, responses, command_read, response_read, acceptedCommand, acceptedResponse, State, session_at, step, run, start}
+use Rattle.message_protocol.specs.Transcript.{Call, wrap_command, unwrap_command, wrap_response, unwrap_response, close, side_of, Gives, does, Transcript, chaining_values, commands, responses, command_read, response_read, accepted_command, accepted_response, State, session_at, step, run, start}
 
 -- ---- what holds of a transcript
 
@@ -28,8 +28,8 @@ pub record Collision (C : Ciphers) (key : Bytes) (sent : List Bytes) : Type 0 wh
   pub i : ℕ
   pub j : ℕ
   pub i<j : i < j
-  pub within : j < length (chainingValues C key sent)
-  pub equal : get_or (chainingValues C key sent) i [] ≡ get_or (chainingValues C key sent) j []
+  pub within : j < length (chaining_values C key sent)
+  pub equal : get_or (chaining_values C key sent) i [] ≡ get_or (chaining_values C key sent) j []
 
 -- an acceptance whose '8E' holds the first 8 bytes of its input's full MAC, and the sender had not yet MACed that input
 -- in that direction, or two of its chaining values there are equal
@@ -42,11 +42,11 @@ module _ (C : Ciphers) (K : Keys) where
   abbrev pub Breaks : Transcript → (c : Call) → Gives c → Type 0
   Breaks t (wrap_command side m room) field = ⊥
   Breaks t (unwrap_command side ins p1 p2 field room) g =
-      let e = acceptedCommand C K ins p1 p2 field g t.commands.accepted in
+      let e = accepted_command C K ins p1 p2 field g t.commands.accepted in
       MacBreak C K.mac (inputs t.commands.wrapped) e.input (mac_of field (command_read ins field))
   Breaks t (wrap_response side m room) field = ⊥
   Breaks t (unwrap_response side sw field room) m =
-      let e = acceptedResponse C K sw field m t.responses.accepted in
+      let e = accepted_response C K sw field m t.responses.accepted in
       MacBreak C K.rmac (inputs t.responses.wrapped) e.input (mac_of field (response_read sw field))
   Breaks t (close side) u = ⊥
 
@@ -78,8 +78,8 @@ AllBytes (c ∷ cs) = CallBytes c × AllBytes cs
 -- after every call of every list that begins with two openings that were not refused, with the same keys
 abbrev pub Agreement : Ciphers → Type 0
 Agreement C =
-    (hostSuite cardSuite : ℕ) (K : Keys) → KeysOfBytes K
-    → (opening Host hostSuite K).answer ≡ Done → (opening Card cardSuite K).answer ≡ Done
+    (host_suite card_suite : ℕ) (K : Keys) → KeysOfBytes K
+    → (opening Host host_suite K).answer ≡ Done → (opening Card card_suite K).answer ≡ Done
     → (calls : List Call) → AllBytes calls → (n : ℕ)
-    → let st = start (opening Host hostSuite K).session (opening Card cardSuite K).session in
+    → let st = start (opening Host host_suite K).session (opening Card card_suite K).session in
     Agrees C K (run C K st (take n calls)).transcript ⊎ Excepted C K st (take n calls)

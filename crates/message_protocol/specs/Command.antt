@@ -57,24 +57,24 @@ command_accepted s le full d = record { gives = record { payload = d; le = le };
 
 module _ (C : Ciphers) where
   -- the full MAC under the session's SK_MAC
-  unfoldable pub commandMac : Session → CommandHeader → Bytes → Bytes
-  commandMac s h covered = C.mac (key_in s.suite s.sk_mac) (command_input s.command_mcv h covered)
+  unfoldable pub command_mac : Session → CommandHeader → Bytes → Bytes
+  command_mac s h covered = C.mac (key_in s.suite s.sk_mac) (command_input s.command_mcv h covered)
 
   -- a command is encrypted under the counter of its number, which is one more than those before it
-  unfoldable pub commandCiphertext : Session → Bytes → Bytes
-  commandCiphertext s d = C.encrypt (key_in s.suite s.sk_enc) (command_counter (s.count + 1)) d
+  unfoldable pub command_ciphertext : Session → Bytes → Bytes
+  command_ciphertext s d = C.encrypt (key_in s.suite s.sk_enc) (command_counter (s.count + 1)) d
 
   -- '8E' holds the first 8 bytes of the full MAC; all 16 become the next chaining value
-  unfoldable pub commandWrapped : Session → CommandHeader → Bytes → Outcome Bytes
-  commandWrapped s h c =
-      let full = commandMac s h (command_objects c h.le) in
+  unfoldable pub command_wrapped : Session → CommandHeader → Bytes → Outcome Bytes
+  command_wrapped s h c =
+      let full = command_mac s h (command_objects c h.le) in
       record { gives = command_field c h.le (take 8 full); next = command_taken s full }
 
-  unfoldable pub hostWraps : Session → Command → ℕ → Out Bytes
-  hostWraps s m room =
+  unfoldable pub host_wraps : Session → Command → ℕ → Out Bytes
+  host_wraps s m room =
       concluded s (
       wrap_command_checks s m.header (length m.payload) room and_then (λ checked.
-      gave (commandWrapped s m.header (commandCiphertext s m.payload)))
+      gave (command_wrapped s m.header (command_ciphertext s m.payload)))
       )
 
   -- the stages behind the reading, by Le, the full MAC that was computed, what was received, and the buffer's size
@@ -83,10 +83,10 @@ module _ (C : Ciphers) where
       verified_text C (key_in s.suite s.sk_enc) (command_counter (s.count + 1)) full r room and_then (λ d.
       gave (command_accepted s le full d))
 
-  unfoldable pub cardUnwraps : Session → ℕ → ℕ → ℕ → Bytes → ℕ → Out CommandGiven
-  cardUnwraps s ins p1 p2 field room =
+  unfoldable pub card_unwraps : Session → ℕ → ℕ → ℕ → Bytes → ℕ → Out CommandGiven
+  card_unwraps s ins p1 p2 field room =
       concluded s (
       unwrap_command_checks s ins (length field) and_then (λ checked.
       objects_of (read_field (command_wanted ins) field) and_then (λ o.
-      open_command s o.second (commandMac s (header_read ins p1 p2 o) (covered_of field o)) (received_in field o) room))
+      open_command s o.second (command_mac s (header_read ins p1 p2 o) (covered_of field o)) (received_in field o) room))
       )

@@ -15,8 +15,8 @@ use Rattle.message_ciphers.specs.Ciphers.{Ciphers, IsKey}
 use Rattle.message_answer.specs.Message.{Command, Response, max_command_data, max_response_data, command_limit}
 use Rattle.message_permission.specs.Permission.{command_permitted, status_permitted}
 use Rattle.message_answer.specs.Answer.{gave}
-use Rattle.message_protocol.specs.Command.{hostWraps, cardUnwraps}
-use Rattle.message_protocol.specs.Response.{cardWraps, hostUnwraps}
+use Rattle.message_protocol.specs.Command.{host_wraps, card_unwraps}
+use Rattle.message_protocol.specs.Response.{card_wraps, host_unwraps}
 
 -- two sessions in step: a host's and a card's, open, in one phase, with the same suite, keys, count and chaining values
 pub record InStep (phase : Phase) (h c : Session) : Type 0 where
@@ -46,9 +46,9 @@ pub record CommandDelivered (C : Ciphers) (h c : Session) (m : Command) (wrapRoo
   pub field : Bytes
   pub host : Session
   pub card : Session
-  pub wraps : hostWraps C h m wrapRoom ≡ record { answer = gave field; next = host }
+  pub wraps : host_wraps C h m wrapRoom ≡ record { answer = gave field; next = host }
   pub sized : length field ≡ command_length (length m.payload) m.header.le
-  pub unwraps : cardUnwraps C c m.header.ins m.header.p1 m.header.p2 field unwrapRoom
+  pub unwraps : card_unwraps C c m.header.ins m.header.p1 m.header.p2 field unwrapRoom
       ≡ record { answer = gave (record { payload = m.payload; le = m.header.le }); next = card }
   pub again : InStep Pending host card
   pub keyed : Keyed host
@@ -68,9 +68,9 @@ pub record ResponseDelivered (C : Ciphers) (h c : Session) (m : Response) (wrapR
   pub field : Bytes
   pub host : Session
   pub card : Session
-  pub wraps : cardWraps C c m wrapRoom ≡ record { answer = gave field; next = card }
+  pub wraps : card_wraps C c m wrapRoom ≡ record { answer = gave field; next = card }
   pub sized : length field ≡ response_length (length m.payload)
-  pub unwraps : hostUnwraps C h m.header field unwrapRoom ≡ record { answer = gave m; next = host }
+  pub unwraps : host_unwraps C h m.header field unwrapRoom ≡ record { answer = gave m; next = host }
   pub again : InStep Ready host card
   pub keyed : Keyed host
   pub counted : host.count ≡ h.count
@@ -87,6 +87,6 @@ DeliversResponses C =
 
 abbrev pub OpensInStep : Type 0
 OpensInStep =
-    (hostSuite cardSuite : ℕ) (K : Keys) → KeysOfBytes K → (opening Host hostSuite K).answer ≡ Done → (opening Card cardSuite K).answer ≡ Done
-    → InStep Ready (opening Host hostSuite K).session (opening Card cardSuite K).session
-    × (Keyed (opening Host hostSuite K).session × ((opening Host hostSuite K).session.count ≡ 0))
+    (host_suite card_suite : ℕ) (K : Keys) → KeysOfBytes K → (opening Host host_suite K).answer ≡ Done → (opening Card card_suite K).answer ≡ Done
+    → InStep Ready (opening Host host_suite K).session (opening Card card_suite K).session
+    × (Keyed (opening Host host_suite K).session × ((opening Host host_suite K).session.count ≡ 0))

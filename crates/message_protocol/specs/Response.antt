@@ -46,23 +46,23 @@ response_accepted s sw full d = record { gives = record { header = sw; payload =
 
 module _ (C : Ciphers) where
   -- the full MAC under the session's SK_RMAC, over its chaining value and the field's bytes before '8E'
-  unfoldable pub responseMac : Session → Bytes → Bytes
-  responseMac s covered = C.mac (key_in s.suite s.sk_rmac) (response_mac_input s.response_mcv covered)
+  unfoldable pub response_mac : Session → Bytes → Bytes
+  response_mac s covered = C.mac (key_in s.suite s.sk_rmac) (response_mac_input s.response_mcv covered)
 
   -- a response is encrypted under its command's number
-  unfoldable pub responseCiphertext : Session → Bytes → Bytes
-  responseCiphertext s d = C.encrypt (key_in s.suite s.sk_enc) (response_counter s.count) d
+  unfoldable pub response_ciphertext : Session → Bytes → Bytes
+  response_ciphertext s d = C.encrypt (key_in s.suite s.sk_enc) (response_counter s.count) d
 
-  unfoldable pub responseWrapped : Session → StatusWord → Bytes → Outcome Bytes
-  responseWrapped s sw c =
-      let full = responseMac s (response_objects c sw.sw1 sw.sw2) in
+  unfoldable pub response_wrapped : Session → StatusWord → Bytes → Outcome Bytes
+  response_wrapped s sw c =
+      let full = response_mac s (response_objects c sw.sw1 sw.sw2) in
       record { gives = response_field c sw.sw1 sw.sw2 (take 8 full); next = response_taken s full }
 
-  unfoldable pub cardWraps : Session → Response → ℕ → Out Bytes
-  cardWraps s m room =
+  unfoldable pub card_wraps : Session → Response → ℕ → Out Bytes
+  card_wraps s m room =
       concluded s (
       wrap_response_checks s m.header (length m.payload) room and_then (λ checked.
-      gave (responseWrapped s m.header (responseCiphertext s m.payload)))
+      gave (response_wrapped s m.header (response_ciphertext s m.payload)))
       )
 
   -- the stages behind the reading, by the status word, the full MAC that was computed, what was received, and the buffer's size
@@ -71,10 +71,10 @@ module _ (C : Ciphers) where
       verified_text C (key_in s.suite s.sk_enc) (response_counter s.count) full r room and_then (λ d.
       gave (response_accepted s sw full d))
 
-  unfoldable pub hostUnwraps : Session → StatusWord → Bytes → ℕ → Out Response
-  hostUnwraps s sw field room =
+  unfoldable pub host_unwraps : Session → StatusWord → Bytes → ℕ → Out Response
+  host_unwraps s sw field room =
       concluded s (
       unwrap_response_checks s sw (length field) and_then (λ checked.
       objects_of (read_field (response_wanted sw) field) and_then (λ o.
-      open_response s sw (responseMac s (covered_of field o)) (received_in field o) room))
+      open_response s sw (response_mac s (covered_of field o)) (received_in field o) room))
       )

@@ -22,8 +22,8 @@ use Rattle.message_answer.specs.Answer.{Answer, refused, gave, Out}
 use Rattle.message_exchange.specs.Exchange as exchange
 use Rattle.message_exchange.specs.Exchange.{Entry, Log, inputs, Direction, wraps, accepts}
 pub use Rattle.message_exchange.specs.Exchange.{empty}
-use Rattle.message_protocol.specs.Command.{command_input, header_read, hostWraps, cardUnwraps}
-use Rattle.message_protocol.specs.Response.{cardWraps, hostUnwraps}
+use Rattle.message_protocol.specs.Command.{command_input, header_read, host_wraps, card_unwraps}
+use Rattle.message_protocol.specs.Response.{card_wraps, host_unwraps}
 
 -- ---- calls
 
@@ -51,12 +51,12 @@ Transcript = exchange.Transcript CommandHeader StatusWord
 
 module _ (C : Ciphers) where
   -- a sender's chaining values: the zero start, and the full MAC of each input
-  unfoldable pub chainingValues : Bytes → List Bytes → List Bytes
-  chainingValues key sent = zeros 16 ∷ map (C.mac key) sent
+  unfoldable pub chaining_values : Bytes → List Bytes → List Bytes
+  chaining_values key sent = zeros 16 ∷ map (C.mac key) sent
 
   -- the last of them, with which the next entry's input begins
   unfoldable pub chaining : {H : Type 0} → Bytes → Log H → Bytes
-  chaining key log = get_or (chainingValues key (inputs log)) (length log) []
+  chaining key log = get_or (chaining_values key (inputs log)) (length log) []
 
 module _ (C : Ciphers) (K : Keys) where
   abbrev pub commands : Direction CommandHeader
@@ -91,16 +91,16 @@ response_read sw field = objects_read (read_field (response_wanted sw) field)
 
 module _ (C : Ciphers) (K : Keys) where
   -- an unwrap after a log: its input is of the bytes received
-  unfoldable pub acceptedCommand : ℕ → ℕ → ℕ → Bytes → CommandGiven → Log CommandHeader → Entry CommandHeader
-  acceptedCommand ins p1 p2 field g log =
+  unfoldable pub accepted_command : ℕ → ℕ → ℕ → Bytes → CommandGiven → Log CommandHeader → Entry CommandHeader
+  accepted_command ins p1 p2 field g log =
       let o = command_read ins field in
       record {
         message = record { header = header ins p1 p2 g.le; payload = g.payload };
         input = (commands C K).input log (header_read ins p1 p2 o) (covered_of field o);
       }
 
-  unfoldable pub acceptedResponse : StatusWord → Bytes → Response → Log StatusWord → Entry StatusWord
-  acceptedResponse sw field m log =
+  unfoldable pub accepted_response : StatusWord → Bytes → Response → Log StatusWord → Entry StatusWord
+  accepted_response sw field m log =
       record { message = m; input = (responses C K).input log sw (covered_of field (response_read sw field)) }
 
   -- what a call that was not refused adds
@@ -108,12 +108,12 @@ module _ (C : Ciphers) (K : Keys) where
   noted t (wrap_command side m room) field =
       record { commands = wraps (commands C K) m field t.commands; responses = t.responses }
   noted t (unwrap_command side ins p1 p2 field room) g =
-      let e = acceptedCommand ins p1 p2 field g t.commands.accepted in
+      let e = accepted_command ins p1 p2 field g t.commands.accepted in
       record { commands = accepts e t.commands; responses = t.responses }
   noted t (wrap_response side m room) field =
       record { commands = t.commands; responses = wraps (responses C K) m field t.responses }
   noted t (unwrap_response side sw field room) m =
-      let e = acceptedResponse sw field m t.responses.accepted in
+      let e = accepted_response sw field m t.responses.accepted in
       record { commands = t.commands; responses = accepts e t.responses }
   noted t (close side) u = t
 
@@ -126,10 +126,10 @@ module _ (C : Ciphers) (K : Keys) where
 
 -- the call made with a session
 unfoldable pub does : Ciphers → Session → (c : Call) → Out (Gives c)
-does C s (wrap_command side m room) = hostWraps C s m room
-does C s (unwrap_command side ins p1 p2 field room) = cardUnwraps C s ins p1 p2 field room
-does C s (wrap_response side m room) = cardWraps C s m room
-does C s (unwrap_response side sw field room) = hostUnwraps C s sw field room
+does C s (wrap_command side m room) = host_wraps C s m room
+does C s (unwrap_command side ins p1 p2 field room) = card_unwraps C s ins p1 p2 field room
+does C s (wrap_response side m room) = card_wraps C s m room
+does C s (unwrap_response side sw field room) = host_unwraps C s sw field room
 does C s (close side) = record { answer = gave tt; next = closed s }
 
 abbrev pub side_of : Call → Side

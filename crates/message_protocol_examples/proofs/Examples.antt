@@ -45,10 +45,10 @@ use Rattle.message_answer.specs.Answer.{Answer, refused, gave, require◌else◌
 use Rattle.message_answer.specs.Outcome.{after_refusal}
 use Rattle.message_verify.specs.Reading.{objects_of, text_of}
 use Rattle.message_verify.specs.VerifiedText.{verified_text}
-use Rattle.message_exchange.specs.Exchange.{Entry, messages, wrapEntry, field_of as entryField, fieldsFrom}
-use Rattle.message_protocol.specs.Command.{command_input, wrap_command_checks, unwrap_command_checks, commandMac, commandCiphertext, commandWrapped, command_accepted, hostWraps, open_command, cardUnwraps}
-use Rattle.message_protocol.specs.Response.{wrap_response_checks, unwrap_response_checks, responseMac, responseCiphertext, responseWrapped, response_accepted, cardWraps, open_response, hostUnwraps}
-use Rattle.message_protocol.specs.Transcript.{Call, wrap_command, unwrap_command, wrap_response, unwrap_response, close, Transcript, chainingValues, chaining, acceptedCommand, acceptedResponse, noted, entered, State, moved, does, step, run, start, commands, responses}
+use Rattle.message_exchange.specs.Exchange.{Entry, messages, wrap_entry, field_of as entryField, fields_from}
+use Rattle.message_protocol.specs.Command.{command_input, wrap_command_checks, unwrap_command_checks, command_mac, command_ciphertext, command_wrapped, command_accepted, host_wraps, open_command, card_unwraps}
+use Rattle.message_protocol.specs.Response.{wrap_response_checks, unwrap_response_checks, response_mac, response_ciphertext, response_wrapped, response_accepted, card_wraps, open_response, host_unwraps}
+use Rattle.message_protocol.specs.Transcript.{Call, wrap_command, unwrap_command, wrap_response, unwrap_response, close, Transcript, chaining_values, chaining, accepted_command, accepted_response, noted, entered, State, moved, does, step, run, start, commands, responses}
 use Rattle.message_protocol.specs.Agreement.{Agrees, MacBreak, Excepted, AllBytes}
 
 -- ---- messages
@@ -81,9 +81,9 @@ begin = start (opening Host 2 keys).session (opening Card 2 keys).session
 exchange : Ciphers → State → Command → Response → List Call
 exchange C st m r =
     let c1 = wrap_command Host m 3000 in
-    let c2 = unwrap_command Card m.header.ins m.header.p1 m.header.p2 (field_of (hostWraps C st.host m 3000).answer) 3000 in
+    let c2 = unwrap_command Card m.header.ins m.header.p1 m.header.p2 (field_of (host_wraps C st.host m 3000).answer) 3000 in
     let st2 = run C keys st (c1 ∷ c2 ∷ []) in
-    c1 ∷ c2 ∷ wrap_response Card r 20000 ∷ unwrap_response Host r.header (field_of (cardWraps C st2.card r 20000).answer) 20000 ∷ []
+    c1 ∷ c2 ∷ wrap_response Card r 20000 ∷ unwrap_response Host r.header (field_of (card_wraps C st2.card r 20000).answer) 20000 ∷ []
 
 two : Ciphers → List Call
 two C = let first = exchange C begin verify okay in first ++ exchange C (run C keys begin first) get_data certificate
@@ -140,9 +140,9 @@ member_of x (y ∷ l) e = go (same x y) refl e (member_of x l)
 
 -- an input that was MACed, under distinct chaining values, breaks nothing
 sound : (C : Ciphers) (key : Bytes) (sent : List Bytes) (input mac : Bytes) → MacBreak C key sent input mac
-    → among input sent ≡ true → distinct (chainingValues C key sent) ≡ true → ⊥
+    → among input sent ≡ true → distinct (chaining_values C key sent) ≡ true → ⊥
 sound C key sent input mac b m d =
-    elim b.cause [ inl new ↦ new (member_of input sent m) | inr c ↦ apart (chainingValues C key sent) d c.i c.j c.i<j c.within c.equal ]
+    elim b.cause [ inl new ↦ new (member_of input sent m) | inr c ↦ apart (chaining_values C key sent) d c.i c.j c.i<j c.within c.equal ]
 
 -- ---- runs with a MAC that is always zeros, one for each part of the claim
 
@@ -225,7 +225,7 @@ repeated = wrap_command Host check 3000 ∷ received_as check check ∷ wrap_res
 mac_changed : List Call
 mac_changed =
     wrap_command Host check 3000
-    ∷ unwrap_command Card 0x20 0x00 0x98 (field_of (hostWraps toy begin.host check 3000).answer) 3000
+    ∷ unwrap_command Card 0x20 0x00 0x98 (field_of (host_wraps toy begin.host check 3000).answer) 3000
     ∷ wrap_response Card okay 3000
     ∷ unwrap_response Host okay.header (response_field [] 0x90 0x00 (zeros 8)) 3000 ∷ []
 
@@ -234,7 +234,7 @@ response_again : List Call
 response_again =
     let first = exchange toy begin check okay in
     let st = run toy keys begin (take 2 first) in
-    let again = unwrap_response Host okay.header (field_of (cardWraps toy st.card okay 20000).answer) 20000 ∷ [] in
+    let again = unwrap_response Host okay.header (field_of (card_wraps toy st.card okay 20000).answer) 20000 ∷ [] in
     first ++ again ++ exchange toy (run toy keys begin (first ++ again)) verify okay
 
 -- the same, then calls at the wrong end, both closings, and a call after them
@@ -271,15 +271,15 @@ two_outstanding : Transcript
 two_outstanding =
     record {
       commands =
-          record { wrapped = entry ∷ entry ∷ []; fields = fieldsFrom (commands toy keys) 1 (entry ∷ entry ∷ []); accepted = [] };
+          record { wrapped = entry ∷ entry ∷ []; fields = fields_from (commands toy keys) 1 (entry ∷ entry ∷ []); accepted = [] };
       responses = record { wrapped = []; fields = []; accepted = [] };
     }
 
 answer_to_nothing : Transcript
 answer_to_nothing =
     record {
-      commands = record { wrapped = entry ∷ []; fields = fieldsFrom (commands toy keys) 1 (entry ∷ []); accepted = [] };
-      responses = record { wrapped = reply ∷ []; fields = fieldsFrom (responses toy keys) 1 (reply ∷ []); accepted = [] };
+      commands = record { wrapped = entry ∷ []; fields = fields_from (commands toy keys) 1 (entry ∷ []); accepted = [] };
+      responses = record { wrapped = reply ∷ []; fields = fields_from (responses toy keys) 1 (reply ∷ []); accepted = [] };
     }
 
 -- one wrapped, and no bytes handed out for it
@@ -384,7 +384,7 @@ record Computed : Type 0 where
   same_chaining_value : Excepted flat keys begin repeated
 
 computed : Computed
-unfolding ins_of p1_of sw2_of sw2_changed other_ins other_p1 ins_changed p1_changed one_byte_read toy_hash toy_mac xor_all mask toy_encrypt toy_decrypt toy keys verify get_data okay certificate field_of begin exchange two one_byte short counts same padding pad padded_length marked mark_before unpad length_field read_length is_shortest rank allowed right_size right_second right_value need◌else◌⨾◌ with_length read_object notedObject ended on_object walk read_field object encrypted_data le_object status_word mac_object command_objects response_objects command_field response_field ciphertext_length encrypted_data_length command_length response_length encoded_header command_mac_input response_mac_input all_zero keys_end keys_zero mcvs_zero keeps_phase valid counts_as_open is_turn keys_fit open_suite opening data_in ins_permitted le_need data_need command_permitted status_permitted command_wanted response_wanted big_endian command_counter response_counter require◌else◌⨾◌ ◌and-then◌ after_refusal concluded objects_of text_of command_input wrap_command_checks unwrap_command_checks commandMac commandCiphertext commandWrapped command_accepted hostWraps open_command cardUnwraps wrap_response_checks unwrap_response_checks responseMac responseCiphertext responseWrapped response_accepted cardWraps open_response hostUnwraps chainingValues chaining wrapEntry entryField fieldsFrom acceptedCommand acceptedResponse noted entered moved does step run flat among distinct forged received_as other_header other_data authenticate with_le more_commands more_responses header_changed data_changed le_changed status_changed one_wrapped never_wrapped check repeated mac_changed response_again mixed all_bytes response_data_changed entry reply two_outstanding answer_to_nothing field_lost response_field_lost data_of p2_of third_of le_of sw1_of verified_text
+unfolding ins_of p1_of sw2_of sw2_changed other_ins other_p1 ins_changed p1_changed one_byte_read toy_hash toy_mac xor_all mask toy_encrypt toy_decrypt toy keys verify get_data okay certificate field_of begin exchange two one_byte short counts same padding pad padded_length marked mark_before unpad length_field read_length is_shortest rank allowed right_size right_second right_value need◌else◌⨾◌ with_length read_object notedObject ended on_object walk read_field object encrypted_data le_object status_word mac_object command_objects response_objects command_field response_field ciphertext_length encrypted_data_length command_length response_length encoded_header command_mac_input response_mac_input all_zero keys_end keys_zero mcvs_zero keeps_phase valid counts_as_open is_turn keys_fit open_suite opening data_in ins_permitted le_need data_need command_permitted status_permitted command_wanted response_wanted big_endian command_counter response_counter require◌else◌⨾◌ ◌and-then◌ after_refusal concluded objects_of text_of command_input wrap_command_checks unwrap_command_checks command_mac command_ciphertext command_wrapped command_accepted host_wraps open_command card_unwraps wrap_response_checks unwrap_response_checks response_mac response_ciphertext response_wrapped response_accepted card_wraps open_response host_unwraps chaining_values chaining wrap_entry entryField fields_from accepted_command accepted_response noted entered moved does step run flat among distinct forged received_as other_header other_data authenticate with_le more_commands more_responses header_changed data_changed le_changed status_changed one_wrapped never_wrapped check repeated mac_changed response_again mixed all_bytes response_data_changed entry reply two_outstanding answer_to_nothing field_lost response_field_lost data_of p2_of third_of le_of sw1_of verified_text
 computed =
     record {
       counted = refl;

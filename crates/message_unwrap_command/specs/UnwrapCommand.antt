@@ -10,10 +10,10 @@ use Rattle.message_permission.specs.Permission.{command_wanted}
 use Rattle.message_ciphers.specs.Aes.{aes_ciphers}
 use Rattle.message_verify.specs.Reading.{objects_of}
 use Rattle.message_verify.specs.VerifiedText.{Received, received_in}
-use Rattle.message_protocol.specs.Command.{header_read, commandMac, open_command as opens, cardUnwraps}
+use Rattle.message_protocol.specs.Command.{header_read, command_mac, open_command as opens, card_unwraps}
 
 abbrev pub unwrap_command : Session → ℕ → ℕ → ℕ → Bytes → ℕ → Out CommandGiven
-unwrap_command = cardUnwraps aes_ciphers
+unwrap_command = card_unwraps aes_ciphers
 
 -- its stages: behind the MAC's computation, behind the reading, and behind the tests
 abbrev pub open_command : Session → Bool → Bytes → Received → ℕ → Answer (Outcome CommandGiven)
@@ -21,7 +21,7 @@ open_command = opens aes_ciphers
 
 abbrev pub open_objects : Session → ℕ → ℕ → ℕ → Bytes → ℕ → Objects → Answer (Outcome CommandGiven)
 open_objects s ins p1 p2 field room o =
-    open_command s o.second (commandMac aes_ciphers s (header_read ins p1 p2 o) (covered_of field o)) (received_in field o) room
+    open_command s o.second (command_mac aes_ciphers s (header_read ins p1 p2 o) (covered_of field o)) (received_in field o) room
 
 abbrev pub read_command : Session → ℕ → ℕ → ℕ → Bytes → ℕ → Answer (Outcome CommandGiven)
 read_command s ins p1 p2 field room =

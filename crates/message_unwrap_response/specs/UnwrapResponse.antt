@@ -10,10 +10,10 @@ use Rattle.message_permission.specs.Permission.{response_wanted}
 use Rattle.message_ciphers.specs.Aes.{aes_ciphers}
 use Rattle.message_verify.specs.Reading.{objects_of}
 use Rattle.message_verify.specs.VerifiedText.{Received, received_in}
-use Rattle.message_protocol.specs.Response.{responseMac, open_response as opens, hostUnwraps}
+use Rattle.message_protocol.specs.Response.{response_mac, open_response as opens, host_unwraps}
 
 abbrev pub unwrap_response : Session → ℕ → ℕ → Bytes → ℕ → Out Response
-unwrap_response s sw1 sw2 = hostUnwraps aes_ciphers s (status sw1 sw2)
+unwrap_response s sw1 sw2 = host_unwraps aes_ciphers s (status sw1 sw2)
 
 -- its stages: behind the MAC's computation, behind the reading, and behind the tests
 abbrev pub open_response : Session → ℕ → ℕ → Bytes → Received → ℕ → Answer (Outcome Response)
@@ -21,7 +21,7 @@ open_response s sw1 sw2 = opens aes_ciphers s (status sw1 sw2)
 
 abbrev pub open_objects : Session → ℕ → ℕ → Bytes → ℕ → Objects → Answer (Outcome Response)
 open_objects s sw1 sw2 field room o =
-    open_response s sw1 sw2 (responseMac aes_ciphers s (covered_of field o)) (received_in field o) room
+    open_response s sw1 sw2 (response_mac aes_ciphers s (covered_of field o)) (received_in field o) room
 
 abbrev pub read_response : Session → ℕ → ℕ → Bytes → ℕ → Answer (Outcome Response)
 read_response s sw1 sw2 field room =

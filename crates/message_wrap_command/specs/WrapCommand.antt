@@ -5,7 +5,7 @@ use Rattle.session.specs.declared.Session.{Session}
 use Rattle.message_ciphers.specs.Aes.{aes_ciphers}
 use Rattle.message_answer.specs.Message.{header}
 use Rattle.message_answer.specs.Answer.{Out}
-use Rattle.message_protocol.specs.Command.{hostWraps}
+use Rattle.message_protocol.specs.Command.{host_wraps}
 
 abbrev pub wrap_command : Session → ℕ → ℕ → ℕ → Bool → Bytes → ℕ → Out Bytes
-wrap_command s ins p1 p2 le d room = hostWraps aes_ciphers s (record { header = header ins p1 p2 le; payload = d }) room
+wrap_command s ins p1 p2 le d room = host_wraps aes_ciphers s (record { header = header ins p1 p2 le; payload = d }) room

@@ -5,7 +5,7 @@ ghost use Rattle.octets.specs.Write.{Wrote};
 ghost use Rattle.field_write.specs.Objects.{command_objects};
 ghost use Rattle.field_size.specs.Lengths.{command_length};
 ghost use Rattle.message_ciphers.specs.Aes.{aes_ciphers};
-ghost use Rattle.message_protocol.specs.Command.{commandCiphertext};
+ghost use Rattle.message_protocol.specs.Command.{command_ciphertext};
 
 use field_write::put_command_objects;
 use message_counter::command_counter;
@@ -15,7 +15,7 @@ use session::Session;
 // The objects that the MAC covers, from index 0 on; the index behind them.
 pub fn put_objects(session: Session, le: bool, data: &[u8], out: &mut [u8]) -> usize
     requires { (session.count < command_limit) × (length «data».now ≤ max_command_data) × (command_length (length «data».now) le ≤ length out.old) }
-    ensures objects { Wrote out.old 0 (command_objects (commandCiphertext aes_ciphers session «data».now) le) result out.new }
+    ensures objects { Wrote out.old 0 (command_objects (command_ciphertext aes_ciphers session «data».now) le) result out.new }
     ensures room { result + 10 ≤ length out.old }
 {
     let suite = session.suite;

@@ -5,7 +5,7 @@ use Rattle.session.specs.declared.Session.{Session}
 use Rattle.message_ciphers.specs.Aes.{aes_ciphers}
 use Rattle.message_answer.specs.Message.{status}
 use Rattle.message_answer.specs.Answer.{Outcome}
-use Rattle.message_protocol.specs.Response.{responseCiphertext, responseWrapped}
+use Rattle.message_protocol.specs.Response.{response_ciphertext, response_wrapped}
 
 abbrev pub response_written : Session → ℕ → ℕ → Bytes → Outcome Bytes
-response_written s sw1 sw2 d = responseWrapped aes_ciphers s (status sw1 sw2) (responseCiphertext aes_ciphers s d)
+response_written s sw1 sw2 d = response_wrapped aes_ciphers s (status sw1 sw2) (response_ciphertext aes_ciphers s d)

@@ -7,7 +7,7 @@ use Rattle.session.specs.declared.Session.{Session}
 use Rattle.message_answer.specs.Answer.{Out}
 use Rattle.message_answer.specs.Message.{CommandGiven}
 use Rattle.message_ciphers.specs.Aes.{aes_ciphers}
-use Rattle.message_protocol.specs.Command.{cardUnwraps}
+use Rattle.message_protocol.specs.Command.{card_unwraps}
 use Rattle.message_result.specs.Results.{command_answer}
 use Rattle.message_result.specs.declared.CommandResult.{CommandResult}
 use Rattle.capi_values.specs.Values.{command_values}
@@ -21,7 +21,7 @@ use Rattle.capi_unwrap_command.proofs.pivsm_unwrap_command.Tie as tie
 
 -- the call, of a session
 abbrev call : Given → Session → Out CommandGiven
-call g s = cardUnwraps aes_ciphers s g.ins g.p1 g.p2 g.field (length g.payload)
+call g s = card_unwraps aes_ciphers s g.ins g.p1 g.p2 g.field (length g.payload)
 
 left_is : (before : Bytes) (x : Served Held CommandGiven) (v : Values) (h : Held) (after : Bytes)
     → Gives (λ a. command_values (command_answer a)) (λ m. m.payload) before x v h after
@@ -44,7 +44,7 @@ replace-session-requires c κs =
     reading.session-in.ensures.0 told.enum_told.given.1
 
 returns : tie.Need-returns
-unfolding cardUnwraps
+unfolding card_unwraps
 returns c =
     let valued = c.before.before.before.before.before in
     let unwrapped = valued.before.before.before.before in

@@ -7,7 +7,7 @@ use Rattle.session.specs.declared.Session.{Session}
 use Rattle.message_answer.specs.Answer.{Out}
 use Rattle.message_answer.specs.Message.{Response}
 use Rattle.message_ciphers.specs.Aes.{aes_ciphers}
-use Rattle.message_protocol.specs.Response.{hostUnwraps}
+use Rattle.message_protocol.specs.Response.{host_unwraps}
 use Rattle.message_result.specs.Results.{response_answer}
 use Rattle.message_result.specs.declared.ResponseResult.{ResponseResult}
 use Rattle.capi_values.specs.Values.{response_values}
@@ -21,7 +21,7 @@ use Rattle.capi_unwrap_response.proofs.pivsm_unwrap_response.Tie as tie
 
 -- the call, of a session
 abbrev call : Given → Session → Out Response
-call g s = hostUnwraps aes_ciphers s g.sw g.field (length g.payload)
+call g s = host_unwraps aes_ciphers s g.sw g.field (length g.payload)
 
 left_is : (before : Bytes) (x : Served Held Response) (v : Values) (h : Held) (after : Bytes)
     → Gives (λ a. response_values (response_answer a)) (λ m. m.payload) before x v h after
@@ -44,7 +44,7 @@ replace-session-requires c κs =
     reading.session-in.ensures.0 told.enum_told.given.1
 
 returns : tie.Need-returns
-unfolding hostUnwraps
+unfolding host_unwraps
 returns c =
     let valued = c.before.before.before.before.before in
     let unwrapped = valued.before.before.before.before in

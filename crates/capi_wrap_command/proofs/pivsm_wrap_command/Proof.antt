@@ -6,7 +6,7 @@ use Rattle.octets.specs.Bytes.{Bytes}
 use Rattle.session.specs.declared.Session.{Session}
 use Rattle.message_answer.specs.Answer.{Out}
 use Rattle.message_ciphers.specs.Aes.{aes_ciphers}
-use Rattle.message_protocol.specs.Command.{hostWraps}
+use Rattle.message_protocol.specs.Command.{host_wraps}
 use Rattle.message_result.specs.Results.{wrap_answer}
 use Rattle.message_result.specs.declared.WrapResult.{WrapResult}
 use Rattle.capi_values.specs.Values.{wrap_values}
@@ -20,7 +20,7 @@ use Rattle.capi_wrap_command.proofs.pivsm_wrap_command.Tie as tie
 
 -- the call, of a session
 abbrev call : Given → Session → Out Bytes
-call g s = hostWraps aes_ciphers s g.message (length g.field)
+call g s = host_wraps aes_ciphers s g.message (length g.field)
 
 left_is : (before : Bytes) (x : Served Held Bytes) (v : Values) (h : Held) (after : Bytes)
     → Gives (λ a. wrap_values (wrap_answer a)) (λ (bytes : Bytes). bytes) before x v h after
@@ -43,7 +43,7 @@ replace-session-requires c κs =
     reading.session-in.ensures.0 told.enum_told.given.1
 
 returns : tie.Need-returns
-unfolding hostWraps
+unfolding host_wraps
 returns c =
     let valued = c.before.before.before.before.before in
     let wrapped = valued.before.before.before.before in

@@ -5,7 +5,7 @@ use mathlib.Core.Path.{sym, ◌∙◌}
 use Rattle.octets.proofs.Tests.{outcome}
 use Rattle.session_rules.proofs.KeepsTheRules.{broken_not_served}
 use Rattle.message_answer.proofs.Required.{first_refused}
-use Rattle.message_protocol.specs.Command.{unwrap_command_checks, cardUnwraps}
+use Rattle.message_protocol.specs.Command.{unwrap_command_checks, card_unwraps}
 use Rattle.message_result.specs.Results.{command_result}
 use Rattle.message_result.proofs.StageEnds.{stage_refused}
 use Rattle.message_unwrap_command.specs.UnwrapCommand.{payload_of}
@@ -13,7 +13,7 @@ use Rattle.message_unwrap_command.proofs.unwrap_command.Statement.{statement}
 use Rattle.message_unwrap_command.proofs.unwrap_command.Tie as tie
 
 returns : tie.Need-returns
-unfolding cardUnwraps unwrap_command_checks
+unfolding card_unwraps unwrap_command_checks
 returns c =
     let tested = c.before.before in
     let a = tested.before.before.before.args in

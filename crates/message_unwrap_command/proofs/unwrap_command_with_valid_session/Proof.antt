@@ -2,7 +2,7 @@
 use borrow.Author.Rules.{rules}
 use mathlib.Core.Path.{sym, ◌∙◌}
 use lib.ListN.{length}
-use Rattle.message_protocol.specs.Command.{cardUnwraps}
+use Rattle.message_protocol.specs.Command.{card_unwraps}
 use Rattle.message_protocol.proofs.CallCases.{may_unwrap_command}
 use Rattle.message_result.specs.Results.{command_result}
 use Rattle.message_result.proofs.Checks.{was_passed, tests_passed, test_refused}
@@ -19,7 +19,7 @@ read-command-requires c κs =
     (was_passed _ (sym tested.unwrap-command-checks.ensures ∙ c.before.enum_told.given.1))).counted
 
 returns : tie.Need-returns
-unfolding cardUnwraps
+unfolding card_unwraps
 returns c =
     let read = c.before.before in
     let tested = read.before.before.before.before in
@@ -28,7 +28,7 @@ returns c =
     (tests_passed _ _ (sym tested.unwrap-command-checks.ensures ∙ read.before.before.enum_told.given.1)) read.read_command_lem.ensures
 
 returns-2 : tie.Need-returns-2
-unfolding cardUnwraps
+unfolding card_unwraps
 returns-2 c =
     let tested = c.before.before.before.before in
     let a = tested.before.before.before.args in

@@ -5,7 +5,7 @@ use mathlib.Core.Path.{sym, ◌∙◌}
 use Rattle.octets.proofs.Tests.{outcome}
 use Rattle.session_rules.proofs.KeepsTheRules.{broken_not_served}
 use Rattle.message_answer.proofs.Required.{first_refused}
-use Rattle.message_protocol.specs.Response.{unwrap_response_checks, hostUnwraps}
+use Rattle.message_protocol.specs.Response.{unwrap_response_checks, host_unwraps}
 use Rattle.message_result.specs.Results.{response_result}
 use Rattle.message_result.proofs.StageEnds.{stage_refused}
 use Rattle.message_unwrap_response.specs.UnwrapResponse.{payload_of}
@@ -13,7 +13,7 @@ use Rattle.message_unwrap_response.proofs.unwrap_response.Statement.{statement}
 use Rattle.message_unwrap_response.proofs.unwrap_response.Tie as tie
 
 returns : tie.Need-returns
-unfolding hostUnwraps unwrap_response_checks
+unfolding host_unwraps unwrap_response_checks
 returns c =
     let tested = c.before.before in
     let a = tested.before.before.before.args in

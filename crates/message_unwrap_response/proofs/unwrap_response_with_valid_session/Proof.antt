@@ -2,7 +2,7 @@
 use borrow.Author.Rules.{rules}
 use mathlib.Core.Path.{sym, ◌∙◌}
 use Rattle.session_rules.proofs.KeepsTheRules.{valid_count}
-use Rattle.message_protocol.specs.Response.{hostUnwraps}
+use Rattle.message_protocol.specs.Response.{host_unwraps}
 use Rattle.message_result.specs.Results.{response_result}
 use Rattle.message_result.proofs.Checks.{tests_passed, test_refused}
 use Rattle.message_result.proofs.StageEnds.{stage_goes_on, stage_refused}
@@ -16,7 +16,7 @@ read-response-requires c κs =
     valid_count start.args.session start.requires
 
 returns : tie.Need-returns
-unfolding hostUnwraps
+unfolding host_unwraps
 returns c =
     let read = c.before.before in
     let tested = read.before.before.before.before in
@@ -25,7 +25,7 @@ returns c =
     (tests_passed _ _ (sym tested.unwrap-response-checks.ensures ∙ read.before.before.enum_told.given.1)) read.read_response_lem.ensures
 
 returns-2 : tie.Need-returns-2
-unfolding hostUnwraps
+unfolding host_unwraps
 returns-2 c =
     let tested = c.before.before.before.before in
     let a = tested.before.before.before.args in

@@ -7,7 +7,7 @@ use lib.ListN.{length, get_or}
 use Rattle.octets.specs.Bytes.{Bytes}
 use Rattle.message_answer.specs.Answer.{concluded, buffer}
 use Rattle.message_answer.specs.Message.{header}
-use Rattle.message_protocol.specs.Command.{hostWraps}
+use Rattle.message_protocol.specs.Command.{host_wraps}
 use Rattle.message_protocol.proofs.CallCases.{may_wrap_command}
 use Rattle.message_protocol.proofs.KeysTyped.{keys_typed}
 use Rattle.message_result.specs.Results.{wrap_result}
@@ -26,7 +26,7 @@ write-command-requires c κs =
     (may.counted, may.short, may.fits)
 
 returns : tie.Need-returns
-unfolding hostWraps concluded buffer
+unfolding host_wraps concluded buffer
 returns c =
     let sized = c.before.before.before.before.before.before.before.before.before.well-formed.0 in
     let session = c.before.before.before.before.before.before.before.before.before.args.session in
@@ -42,7 +42,7 @@ returns c =
     (ends.0, (ends.1, (λ i l. (tested.before.before.shared-slice-known.given i).fits, keyed)))
 
 returns-2 : tie.Need-returns-2
-unfolding hostWraps
+unfolding host_wraps
 returns-2 c =
     let sized = c.before.before.before.before.before.before.before.well-formed.0 in
     let session = c.before.before.before.before.before.before.before.args.session in

@@ -8,7 +8,7 @@ use Rattle.octets.specs.Bytes.{Bytes}
 use Rattle.octets.proofs.Tests.{outcome}
 use Rattle.session_rules.proofs.KeepsTheRules.{broken_not_served}
 use Rattle.message_answer.proofs.Required.{first_refused}
-use Rattle.message_protocol.specs.Response.{wrap_response_checks, cardWraps}
+use Rattle.message_protocol.specs.Response.{wrap_response_checks, card_wraps}
 use Rattle.message_protocol.proofs.KeysTyped.{keys_typed}
 use Rattle.message_result.specs.Results.{wrap_result}
 use Rattle.message_result.proofs.StageEnds.{stage_refused}
@@ -16,7 +16,7 @@ use Rattle.message_wrap_response.proofs.wrap_response.Statement.{statement}
 use Rattle.message_wrap_response.proofs.wrap_response.Tie as tie
 
 returns : tie.Need-returns
-unfolding cardWraps wrap_response_checks
+unfolding card_wraps wrap_response_checks
 returns c =
     let sized = c.before.before.before.before.before.well-formed.0 in
     let session = c.before.before.before.before.before.args.session in

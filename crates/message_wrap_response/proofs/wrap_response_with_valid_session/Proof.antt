@@ -8,7 +8,7 @@ use Rattle.octets.specs.Bytes.{Bytes}
 use Rattle.session_rules.proofs.KeepsTheRules.{valid_count}
 use Rattle.message_answer.specs.Answer.{concluded, buffer}
 use Rattle.message_answer.specs.Message.{status}
-use Rattle.message_protocol.specs.Response.{cardWraps}
+use Rattle.message_protocol.specs.Response.{card_wraps}
 use Rattle.message_protocol.proofs.CallCases.{may_wrap_response}
 use Rattle.message_protocol.proofs.KeysTyped.{keys_typed}
 use Rattle.message_result.specs.Results.{wrap_result}
@@ -27,7 +27,7 @@ write-response-requires c κs =
     (valid_count a.session start.requires, may.short, may.fits)
 
 returns : tie.Need-returns
-unfolding cardWraps concluded buffer
+unfolding card_wraps concluded buffer
 returns c =
     let sized = c.before.before.before.before.before.before.before.before.before.well-formed.0 in
     let session = c.before.before.before.before.before.before.before.before.before.args.session in
@@ -43,7 +43,7 @@ returns c =
     (ends.0, (ends.1, (λ i l. (tested.before.before.shared-slice-known.given i).fits, keyed)))
 
 returns-2 : tie.Need-returns-2
-unfolding cardWraps
+unfolding card_wraps
 returns-2 c =
     let sized = c.before.before.before.before.before.before.before.well-formed.0 in
     let session = c.before.before.before.before.before.before.before.args.session in

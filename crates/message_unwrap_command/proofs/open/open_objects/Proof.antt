@@ -7,7 +7,7 @@ use lib.Seq.{length-take-le}
 use Rattle.octets.specs.Bytes.{Bytes}
 use Rattle.message_permission.specs.Permission.{command_wanted}
 use Rattle.message_ciphers.specs.Aes.{aes_ciphers}
-use Rattle.message_protocol.specs.Command.{command_input, commandMac}
+use Rattle.message_protocol.specs.Command.{command_input, command_mac}
 use Rattle.message_result.specs.Results.{command_result}
 use Rattle.message_result.proofs.StageEnds.{stage_goes_on}
 use Rattle.message_verify.specs.VerifiedText.{Received}
@@ -28,7 +28,7 @@ open-command-requires c κs =
     (start.requires.0, slices_sized start.args.field.now start.args.objects (command_wanted start.args.ins) start.requires.1 (omega arith))
 
 returns : tie.Need-returns
-unfolding commandMac command_input aes_ciphers
+unfolding command_mac command_input aes_ciphers
 returns c =
     let opened = c.before.before in
     let maced = opened.before.before.before.before in

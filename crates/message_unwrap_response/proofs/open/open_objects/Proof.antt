@@ -8,7 +8,7 @@ use Rattle.octets.specs.Bytes.{Bytes}
 use Rattle.message_permission.specs.Permission.{response_wanted}
 use Rattle.message_ciphers.specs.Aes.{aes_ciphers}
 use Rattle.message_answer.specs.Message.{status}
-use Rattle.message_protocol.specs.Response.{responseMac}
+use Rattle.message_protocol.specs.Response.{response_mac}
 use Rattle.message_result.specs.Results.{response_result}
 use Rattle.message_result.proofs.StageEnds.{stage_goes_on}
 use Rattle.message_verify.specs.VerifiedText.{Received}
@@ -30,7 +30,7 @@ open-response-requires c κs =
     (start.requires.0, slices_sized a.field.now a.objects (response_wanted (status a.sw1 a.sw2)) start.requires.1 (omega arith))
 
 returns : tie.Need-returns
-unfolding responseMac aes_ciphers
+unfolding response_mac aes_ciphers
 returns c =
     let opened = c.before.before in
     let maced = opened.before.before.before.before in

@@ -8,7 +8,7 @@ use native.Mathlib.Omega.{arith}
 use lib.ListN.{length}
 use Rattle.octets.proofs.Writing.{wrote_start}
 use Rattle.message_ciphers.specs.Aes.{aes_ciphers}
-use Rattle.message_protocol.specs.Command.{commandCiphertext}
+use Rattle.message_protocol.specs.Command.{command_ciphertext}
 use Rattle.message_encrypt.proofs.Room.{ciphertext_fits, length_written, command_room}
 
 encrypt-text-requires : tie.Need-encrypt-text-requires
@@ -37,7 +37,7 @@ put-command-objects-requires c κs =
     rw (wrote_start w) (omega (arith, l, fit), omega (arith, command_room a.session.suite a.session.sk_enc _ a.«data».now key w a.le, c.before.before.before.before.before.before.before.before.before.before.requires.2))
 
 returns : tie.Need-returns
-unfolding commandCiphertext aes_ciphers
+unfolding command_ciphertext aes_ciphers
 returns c =
     let a = c.before.before.before.before.before.before.before.before.before.before.before.before.before.args in
     let w = c.before.before.before.before.before.before.encrypt-text.ensures in

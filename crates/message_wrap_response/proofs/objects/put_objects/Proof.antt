@@ -9,7 +9,7 @@ use native.Mathlib.Omega.{arith}
 use lib.ListN.{length}
 use Rattle.octets.proofs.Writing.{wrote_start}
 use Rattle.message_ciphers.specs.Aes.{aes_ciphers}
-use Rattle.message_protocol.specs.Response.{responseCiphertext}
+use Rattle.message_protocol.specs.Response.{response_ciphertext}
 use Rattle.message_encrypt.proofs.Room.{ciphertext_fits, length_written, response_room}
 
 encrypt-text-requires : tie.Need-encrypt-text-requires
@@ -38,7 +38,7 @@ put-response-objects-requires c κs =
     rw (wrote_start w) (omega (arith, l, fit), omega (arith, response_room a.session.suite a.session.sk_enc _ a.«data».now key w a.sw1 a.sw2, c.before.before.before.before.before.before.before.before.before.requires.2))
 
 returns : tie.Need-returns
-unfolding responseCiphertext aes_ciphers
+unfolding response_ciphertext aes_ciphers
 returns c =
     let a = c.before.before.before.before.before.before.before.before.before.before.before.before.args in
     let w = c.before.before.before.before.before.before.encrypt-text.ensures in

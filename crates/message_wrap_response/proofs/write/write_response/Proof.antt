@@ -10,7 +10,7 @@ use Rattle.octets.proofs.Writing.{wrote_then, wrote_all, wrote_start}
 use Rattle.field_write.specs.Objects.{response_field}
 use Rattle.session_turn.specs.Transitions.{response_taken}
 use Rattle.message_ciphers.specs.Aes.{aes_ciphers}
-use Rattle.message_protocol.specs.Response.{responseMac, responseWrapped}
+use Rattle.message_protocol.specs.Response.{response_mac, response_wrapped}
 use Rattle.message_result.specs.declared.WrapAnswer.TheVariants.{Wrapped}
 
 slice-reshare-prefix-response-mac : tie.Need-slice-reshare-prefix-response-mac
@@ -23,11 +23,11 @@ put-mac-requires : tie.Need-put-mac-requires
 put-mac-requires c κs = omega (arith, c.before.before.before.before.before.before.put-objects.ensures.1, c.before.before.before.before.before.before.put-objects.auto)
 
 returns : tie.Need-returns
-unfolding responseWrapped responseMac aes_ciphers response_field
+unfolding response_wrapped response_mac aes_ciphers response_field
 returns c =
     let a = c.before.before.before.before.before.before.before.before.before.before.before.before.before.before.before.before.args in
     let w = c.before.before.before.before.before.before.before.before.before.before.put-objects.ensures.0 in
-    let full = c.before.before.before.before.before.before.response-mac.ensures ∙ ap (responseMac aes_ciphers a.session) (wrote_start w) in
+    let full = c.before.before.before.before.before.before.response-mac.ensures ∙ ap (response_mac aes_ciphers a.session) (wrote_start w) in
     let short = c.before.before.before.before.truncated.ensures ∙ ap (take 8) full in
     let whole = wrote_then (omega arith) w (rw short at c.before.before.before.put-mac.ensures) in
     (λ i. record { answer = Wrapped ((whole.end ∙ zero-add _) i); session = (c.response-taken.ensures ∙ ap (response_taken a.session) full) i }, wrote_all whole)
