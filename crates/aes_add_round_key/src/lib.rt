@@ -1,4 +1,6 @@
 // AddRoundKey (FIPS 197, 5.1.4), and the sum of two words, which key expansion uses too.
+#![tactic(auto)]
+
 ghost use Rattle.std.specs.Prelude.{◌≡◌};
 ghost use Rattle.aes_state.specs.State.{add_word};
 ghost use Rattle.aes_add_round_key.specs.AddRoundKey.{add_round_key};

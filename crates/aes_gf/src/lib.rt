@@ -1,4 +1,6 @@
 // Bytes as elements of GF(2^8) (FIPS 197, 4).
+#![tactic(auto)]
+
 ghost use Rattle.std.specs.Prelude.{◌≡◌};
 ghost use Rattle.aes_gf.specs.Field.{x_times, ◌•◌};
 

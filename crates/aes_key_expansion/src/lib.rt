@@ -1,5 +1,7 @@
 // The key sizes, KeyExpansion (FIPS 197, 5.2), and the round keys of a schedule. A schedule is made once and lent: 60 words, of
 // which a 128-bit key uses 44.
+#![tactic(auto)]
+
 ghost use Rattle.std.specs.Prelude.{◌≡◌, ◌+◌, ◌*◌, ◌<◌, ◌≤◌};
 ghost use Rattle.aes_sbox.specs.SBox.{IsTable, s_box};
 ghost use Rattle.aes_key_expansion.specs.KeySizes.{nk, nr};
@@ -10,7 +12,7 @@ use aes_add_round_key::add_word;
 use aes_sub_bytes::sub_word;
 
 // AES-128 and AES-256.
-#[derive(Drop)]
+#[derive(Clone, Copy)]
 pub enum KeySize {
     Aes128,
     Aes256,

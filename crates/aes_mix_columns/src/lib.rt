@@ -1,4 +1,6 @@
 // MixColumns (FIPS 197, 5.1.3), and InvMixColumns (5.3.3), which undoes it: each entry is its row of products.
+#![tactic(auto)]
+
 ghost use Rattle.std.specs.Prelude.{◌≡◌};
 ghost use Rattle.aes_gf.specs.Field.{◌•◌};
 ghost use Rattle.aes_mix_columns.specs.MixColumn.{mix_column, inv_mix_column};

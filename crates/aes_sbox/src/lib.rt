@@ -1,4 +1,6 @@
 // FIPS 197's S-box and its inverse as tables, and the S-box by its rule, which the tests hold the table to.
+#![tactic(auto)]
+
 mod tables;
 
 ghost use Rattle.std.specs.Prelude.{◌≡◌, ◌%◌};

@@ -1,4 +1,6 @@
 // ShiftRows (FIPS 197, 5.1.2), and InvShiftRows (5.3.1), which undoes it.
+#![tactic(auto)]
+
 ghost use Rattle.std.specs.Prelude.{◌≡◌};
 ghost use Rattle.aes_shift_rows.specs.ShiftRows.{shift_rows, inv_shift_rows};
 

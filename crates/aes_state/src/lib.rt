@@ -1,4 +1,6 @@
 // FIPS 197's State, and a block of 16 bytes as one. The State is an array of columns: s[c][r] is the standard's s_(r,c).
+#![tactic(auto)]
+
 ghost use Rattle.std.specs.Prelude.{◌≡◌};
 ghost use Rattle.aes_state.specs.State.{state_of, bytes_of};
 

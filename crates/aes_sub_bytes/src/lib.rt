@@ -1,4 +1,6 @@
 // SubBytes, InvSubBytes and SubWord (FIPS 197, 5.1.1, 5.3.2 and 5.2): one code, which takes the table.
+#![tactic(auto)]
+
 ghost use Rattle.std.specs.Prelude.{◌≡◌, ℕ, get_or};
 ghost use Rattle.aes_sbox.specs.SBox.{IsTable};
 ghost use Rattle.aes_state.specs.State.{at, word, state};

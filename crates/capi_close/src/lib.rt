@@ -1,4 +1,6 @@
 // Closing a session, for programs in C (c/include/pivsm.h), on its bytes.
+#![tactic(auto)]
+
 ghost use Rattle.std.specs.Prelude.{◌≡◌};
 ghost use Rattle.octets.specs.Bytes.{IsBytes};
 ghost use Rattle.capi_close.specs.Call.{given, left, pivsm_close};

@@ -1,4 +1,6 @@
 // Fragmenting a response, for programs in C (c/include/pivsm.h).
+#![tactic(auto)]
+
 ghost use Rattle.std.specs.Prelude.{◌≡◌};
 ghost use Rattle.capi_fragment_response.specs.Call.{given, left, pivsm_fragment_response};
 

@@ -1,4 +1,6 @@
 // GET RESPONSE, for programs in C (c/include/pivsm.h).
+#![tactic(auto)]
+
 ghost use Rattle.std.specs.Prelude.{◌≡◌};
 ghost use Rattle.capi_get_response.specs.Call.{given, left, pivsm_get_response};
 

@@ -1,4 +1,6 @@
 // Opening a session, for programs in C (c/include/pivsm.h).
+#![tactic(auto)]
+
 ghost use Rattle.std.specs.Prelude.{true, ◌≡◌, length};
 ghost use Rattle.session_suite.specs.StoredKeys.{KeysOfBytes, keys};
 ghost use Rattle.session_rules.specs.Valid.{valid};

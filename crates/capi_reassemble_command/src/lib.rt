@@ -1,4 +1,6 @@
 // Reassembling a command, for programs in C (c/include/pivsm.h). A chain of fragments is one number there.
+#![tactic(auto)]
+
 ghost use Rattle.std.specs.Prelude.{◌≡◌, ◌≤◌};
 ghost use Rattle.message_answer.specs.Message.{max_command_field};
 ghost use Rattle.capi_reassemble_command.specs.ChainNumbers.{chain_number, chain_of};

@@ -1,4 +1,6 @@
 // Reassembling a response, for programs in C (c/include/pivsm.h).
+#![tactic(auto)]
+
 ghost use Rattle.std.specs.Prelude.{◌≡◌};
 ghost use Rattle.octets.specs.Bytes.{IsBytes};
 ghost use Rattle.capi_reassemble_response.specs.Call.{given, left, pivsm_reassemble_response};

@@ -1,4 +1,6 @@
 // The session of a call from C: read from the start of a buffer that the caller keeps, and the next one written there where it is another one.
+#![tactic(auto)]
+
 ghost use Rattle.std.specs.Prelude.{◌≡◌, ◌≤◌, length};
 ghost use Rattle.octets.specs.Bytes.{IsBytes};
 ghost use Rattle.session_bytes.specs.Saved.{session_size};

@@ -1,4 +1,6 @@
 // The host unwraps a response, for programs in C (c/include/pivsm.h), on the bytes of a session.
+#![tactic(auto)]
+
 ghost use Rattle.std.specs.Prelude.{◌≡◌};
 ghost use Rattle.octets.specs.Bytes.{IsBytes};
 ghost use Rattle.capi_unwrap_response.specs.Call.{given, left, pivsm_unwrap_response};

@@ -1,4 +1,6 @@
 // The number and the values of each call's answer (document 01, "The numbered answers"), as the calls from C give them.
+#![tactic(auto)]
+
 ghost use Rattle.std.specs.Prelude.{◌≡◌};
 ghost use Rattle.capi_values.specs.Values.{given, refusal_values, wrap_values, command_values, response_values};
 ghost use Rattle.capi_values.specs.ChainingValues.{fragment_values, reassembly_values, response_fragment_values, response_reassembly_values};
@@ -10,7 +12,7 @@ use message_result::{CommandAnswer, ResponseAnswer, WrapAnswer};
 use refusal::{Refusal, status_word};
 
 // 0 and false where an answer has no such value.
-#[derive(Drop)]
+#[derive(Clone, Copy)]
 pub struct Values {
     // 0 where the call is not refused.
     pub number: u32,

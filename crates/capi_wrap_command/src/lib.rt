@@ -1,4 +1,6 @@
 // The host wraps a command, for programs in C (c/include/pivsm.h), on the bytes of a session.
+#![tactic(auto)]
+
 ghost use Rattle.std.specs.Prelude.{◌≡◌};
 ghost use Rattle.octets.specs.Bytes.{IsBytes};
 ghost use Rattle.capi_wrap_command.specs.Call.{given, left, pivsm_wrap_command};

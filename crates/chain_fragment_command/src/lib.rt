@@ -1,4 +1,6 @@
 // The host fragments a command field: the APDU of one fragment a call (document 01, "The wire"; SP 800-73-4 Part 2, 4.2.4).
+#![tactic(auto)]
+
 mod apdu;
 mod checks;
 mod part;

@@ -10,7 +10,7 @@ use chain_parts::part_end;
 const DEFAULT_FRAGMENT: usize = 255;
 
 // The part of a field that a fragment holds.
-#[derive(Drop)]
+#[derive(Clone, Copy)]
 pub struct Part {
     pub start: usize,
     pub end: usize,

@@ -1,4 +1,6 @@
 // The card fragments a response field: one fragment with its status word a call (document 01, "The wire"; ISO/IEC 7816-4).
+#![tactic(auto)]
+
 mod checks;
 mod part;
 

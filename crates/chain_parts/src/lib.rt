@@ -1,4 +1,6 @@
 // A string of bytes in parts: how many there are, and where each ends.
+#![tactic(auto)]
+
 ghost use Rattle.std.specs.Prelude.{◌≡◌, ◌≤◌, length};
 ghost use Rattle.chain_parts.specs.Parts.{part_end};
 

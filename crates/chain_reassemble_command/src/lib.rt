@@ -1,4 +1,6 @@
 // A command field is put together again from its fragments (document 01, "The wire").
+#![tactic(auto)]
+
 mod apdu;
 mod checks;
 

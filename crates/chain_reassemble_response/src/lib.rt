@@ -1,4 +1,6 @@
 // A response field is put together again from its fragments (document 01, "The wire").
+#![tactic(auto)]
+
 mod checks;
 
 ghost use Rattle.std.specs.Prelude.{◌≡◌, ◌≤◌, length};

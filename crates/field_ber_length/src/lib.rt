@@ -1,12 +1,14 @@
 // The lengths of BER-TLV data objects (SP 800-73-4 Part 2, 4.2.1). The shortest form is written. Any form of one to three bytes is
 // read; whether it was the shortest is asked apart.
+#![tactic(auto)]
+
 ghost use Rattle.std.specs.Prelude.{◌≡◌, length, ◌+◌, ◌<◌, ◌≤◌};
 ghost use Rattle.field_ber_length.specs.Length.{length_field, is_shortest, read_length};
 ghost use Rattle.octets.specs.Write.{Wrote};
 
 use octets::put_bytes;
 
-#[derive(Drop)]
+#[derive(Clone, Copy)]
 pub enum LengthRead {
     // The length, and how many bytes its field has.
     Length(usize, usize),

@@ -1,4 +1,6 @@
 // What a secure messaging field should hold: which objects, their tags, and their order (rules 5.5 to 5.7).
+#![tactic(auto)]
+
 ghost use Rattle.std.specs.Prelude.{◌≡◌};
 ghost use Rattle.field_expected.specs.Wanted.{tag_of, need_of, may, rank, allowed};
 
@@ -12,7 +14,7 @@ pub const TAG_99: u8 = 0x99;
 pub const TAG_8E: u8 = 0x8E;
 
 // Whether an object must, may or must not be there.
-#[derive(Drop)]
+#[derive(Clone, Copy)]
 pub enum Need {
     Must,
     May,
@@ -20,14 +22,14 @@ pub enum Need {
 }
 
 // The object between '87' and '8E': Le ('97') in a command, the status word ('99') in a response, which must be the one given.
-#[derive(Drop)]
+#[derive(Clone, Copy)]
 pub enum Second {
     Le(Need),
     Status(u8, u8),
 }
 
 // What a field should hold: whether there is encrypted data, how long it may be, and the second object.
-#[derive(Drop)]
+#[derive(Clone, Copy)]
 pub struct Wanted {
     pub data: Need,
     pub limit: usize,

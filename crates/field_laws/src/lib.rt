@@ -1,1 +1,3 @@
 // What holds of fields written by one end and read by the other: theorems, and no code.
+#![tactic(auto)]
+

@@ -1,4 +1,6 @@
 // One data object of a field, read at an index (SP 800-73-4 Part 2, 4.2; rule 5.5).
+#![tactic(auto)]
+
 mod rules;
 
 ghost use Rattle.std.specs.Prelude.{◌≡◌, ◌<◌, length};
@@ -10,7 +12,7 @@ use field_expected::{Wanted, allowed};
 use rules::{right_size, right_value};
 
 // The rule that a field breaks.
-#[derive(Drop)]
+#[derive(Clone, Copy)]
 pub enum Rule {
     Tag,
     LengthForm,
@@ -20,7 +22,7 @@ pub enum Rule {
 }
 
 // A rule that is broken: the tag last read, and the index of the tag, length or value that breaks it.
-#[derive(Drop)]
+#[derive(Clone, Copy)]
 pub struct Breach {
     pub rule: Rule,
     pub tag: u8,
@@ -28,7 +30,7 @@ pub struct Breach {
 }
 
 // A data object of a field: where it starts, where its value stands, and where the next one starts.
-#[derive(Drop)]
+#[derive(Clone, Copy)]
 pub struct DataObject {
     pub tag: u8,
     pub start: usize,
@@ -37,7 +39,7 @@ pub struct DataObject {
     pub next: usize,
 }
 
-#[derive(Drop)]
+#[derive(Clone, Copy)]
 pub enum ObjectRead {
     Object(DataObject),
     Malformed(Breach),
@@ -85,7 +87,7 @@ fn malformed(rule: Rule, tag: u8, offset: usize) -> ObjectRead
 }
 
 // What a reader read, and its index then.
-#[derive(Drop)]
+#[derive(Clone, Copy)]
 pub struct Step {
     pub read: ObjectRead,
     pub at: usize,

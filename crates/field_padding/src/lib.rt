@@ -1,11 +1,13 @@
 // The padding of command and response data (SP 800-73-4 Part 2, 4.2.2): written, and the data's length found again.
+#![tactic(auto)]
+
 ghost use Rattle.std.specs.Prelude.{◌≡◌, ◌+◌, ◌<◌, ◌≤◌, min, length};
 ghost use Rattle.octets.specs.Write.{Wrote};
 ghost use Rattle.field_padding.specs.Padding.{padding, padded_length, marked, unpad};
 
 use octets::{put_byte, put_zeros};
 
-#[derive(Drop)]
+#[derive(Clone, Copy)]
 pub enum Unpadded {
     // The length of the data.
     Data(usize),

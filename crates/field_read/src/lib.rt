@@ -1,4 +1,6 @@
 // The data objects of a secure messaging field, read from left to right (SP 800-73-4 Part 2, 4.2; rule 5.5).
+#![tactic(auto)]
+
 mod reader;
 
 ghost use Rattle.std.specs.Prelude.{◌≡◌, ◌+◌, ◌≤◌};
@@ -10,7 +12,7 @@ use field_object::{Breach, DataObject, ObjectRead, Rule};
 use reader::read_at;
 
 // What stands in a field. '87', if it is there, stands first.
-#[derive(Drop)]
+#[derive(Clone, Copy)]
 pub struct Objects {
     // The encrypted data, behind the padding-content indicator byte; no bytes where there is no '87'.
     pub ciphertext: usize,
@@ -22,7 +24,7 @@ pub struct Objects {
     pub mac: usize,
 }
 
-#[derive(Drop)]
+#[derive(Clone, Copy)]
 pub enum FieldRead {
     Read(Objects),
     // The first breach.

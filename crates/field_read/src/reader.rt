@@ -9,7 +9,7 @@ use field_expected::Wanted;
 use field_object::{ObjectRead, Step, read_step};
 
 // The field, and the index of the next object.
-#[derive(Drop)]
+#[derive(Clone, Copy)]
 pub struct Reader<'a> {
     field: &'a [u8],
     at: usize,

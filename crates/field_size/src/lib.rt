@@ -1,4 +1,6 @@
 // How long a secure messaging field is, from the length of its data and whether Le is present.
+#![tactic(auto)]
+
 ghost use Rattle.std.specs.Prelude.{◌≡◌, ◌<◌};
 ghost use Rattle.field_size.specs.Lengths.{ciphertext_length, encrypted_data_length, command_length, response_length};
 

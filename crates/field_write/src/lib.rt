@@ -1,5 +1,7 @@
 // The data objects of a secure messaging field, written in the side's order (SP 800-73-4 Part 2, 4.2). The caller checks the room
 // once, before the first byte, with command_length or response_length of field_size.
+#![tactic(auto)]
+
 ghost use Rattle.std.specs.Prelude.{◌+◌, ◌≤◌, ◌<◌, length, [], ◌∷◌, ◌++◌};
 ghost use Rattle.octets.specs.Write.{Wrote};
 ghost use Rattle.field_write.specs.Objects.{le_object, mac_object, encrypted_data, command_objects, response_objects};

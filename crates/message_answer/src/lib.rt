@@ -1,5 +1,7 @@
 // Messages with their limits, what a call answers, and the session that a refusal leaves. Constants, and definitions with their laws
 // (rules 1.3 to 1.5).
+#![tactic(auto)]
+
 
 pub const MAX_COMMAND_DATA: usize = 2047;
 

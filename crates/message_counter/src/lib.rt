@@ -1,4 +1,6 @@
 // The encryption counter (SP 800-73-4 Part 2, 4.2.2).
+#![tactic(auto)]
+
 ghost use Rattle.std.specs.Prelude.{◌≡◌, ◌<◌};
 ghost use Rattle.message_counter.specs.Counter.{command_counter, response_counter};
 

@@ -1,4 +1,6 @@
 // The data of a message, padded and encrypted under the counter of its number (SP 800-73-4 Part 2, 4.2.2).
+#![tactic(auto)]
+
 ghost use Rattle.std.specs.Prelude.{◌≤◌, ◌<◌, ◌%◌, length, take, ◌≡◌};
 ghost use Rattle.octets.specs.Write.{Wrote, over};
 ghost use Rattle.field_size.specs.Lengths.{ciphertext_length};

@@ -1,4 +1,6 @@
 // The session keys as AES takes them.
+#![tactic(auto)]
+
 ghost use Rattle.std.specs.Prelude.{◌≡◌};
 ghost use Rattle.aes_key_expansion.specs.KeyExpansion.{schedule};
 ghost use Rattle.message_key.specs.SessionKeys.{key_size};

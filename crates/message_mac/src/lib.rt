@@ -1,5 +1,7 @@
 // The MAC of a message (SP 800-73-4 Part 2, 4.2.3 and 4.2.5): the full MAC over the field's bytes where they stand, the eight bytes
 // of it that '8E' holds, and the comparison with those received.
+#![tactic(auto)]
+
 ghost use Rattle.std.specs.Prelude.{◌≡◌, length, take};
 ghost use Rattle.message_mac.specs.MacInput.{encoded_header, response_mac_input, command_mac_input};
 ghost use Rattle.message_mac.specs.Same.{same};

@@ -1,4 +1,6 @@
 // Which INS and statuses are permitted, what Le and data each INS takes, and what a field is read for (document 01, "Objects, encryption and MAC").
+#![tactic(auto)]
+
 ghost use Rattle.std.specs.Prelude.{◌≡◌, ◌<◌};
 ghost use Rattle.message_answer.specs.Message.{status, header};
 ghost use Rattle.message_permission.specs.Permission.{ins_permitted, le_need, data_need, status_permitted, command_wanted, response_wanted, command_permitted};

@@ -1,4 +1,6 @@
 // What the calls that wrap and unwrap give back: an answer, and the next session (document 01, "The numbered answers").
+#![tactic(auto)]
+
 ghost use Rattle.std.specs.Prelude.{◌≡◌};
 ghost use Rattle.message_answer.specs.Answer.{after_refusal, not_given};
 ghost use Rattle.message_result.specs.Results.{wrap_result, command_result, response_result};
@@ -7,46 +9,46 @@ use refusal::Refusal;
 use session::Session;
 
 // What the tests of a call answer.
-#[derive(Drop)]
+#[derive(Clone, Copy)]
 pub enum Checked {
     Passed,
     Refused(Refusal),
 }
 
 // Of a wrap: the length of the field that stands in the caller's buffer.
-#[derive(Drop)]
+#[derive(Clone, Copy)]
 pub enum WrapAnswer {
     Wrapped(usize),
     Refused(Refusal),
 }
 
-#[derive(Drop)]
+#[derive(Clone, Copy)]
 pub struct WrapResult {
     pub answer: WrapAnswer,
     pub session: Session,
 }
 
 // Of the card's unwrap: the length of the data that stands in the caller's buffer, and whether Le is present.
-#[derive(Drop)]
+#[derive(Clone, Copy)]
 pub enum CommandAnswer {
     Accepted(usize, bool),
     Refused(Refusal),
 }
 
-#[derive(Drop)]
+#[derive(Clone, Copy)]
 pub struct CommandResult {
     pub answer: CommandAnswer,
     pub session: Session,
 }
 
 // Of the host's unwrap: the length of the data that stands in the caller's buffer, and the status word.
-#[derive(Drop)]
+#[derive(Clone, Copy)]
 pub enum ResponseAnswer {
     Accepted(usize, u8, u8),
     Refused(Refusal),
 }
 
-#[derive(Drop)]
+#[derive(Clone, Copy)]
 pub struct ResponseResult {
     pub answer: ResponseAnswer,
     pub session: Session,

@@ -1,5 +1,7 @@
 // The card unwraps a command (SP 800-73-4 Part 2, 4.2.2 to 4.2.4): the MAC is checked before anything is decrypted, the padding before anything is
 // written. checks.rt gives refusals 1 to 5, field_read finds 7 and 8, and message_verify, which open.rt calls, gives 6, 9 and 10.
+#![tactic(auto)]
+
 mod checks;
 mod open;
 

@@ -1,5 +1,7 @@
 // The host unwraps a response (SP 800-73-4 Part 2, 4.2.2 and 4.2.5): the MAC is checked before anything is decrypted, the padding before anything is
 // written. checks.rt gives refusals 1, 2, 13 and 4, field_read finds 7 and 8, and message_verify, which open.rt calls, gives 6, 9 and 10.
+#![tactic(auto)]
+
 mod checks;
 pub mod open;
 

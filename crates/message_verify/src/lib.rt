@@ -1,5 +1,7 @@
 // The data of a message, from what was received of it: there is room for it, then its MAC is right, then its padding, and only then it is written
 // to the caller's buffer (rules 2.7, 6.4 and 4.5: refusals 6, 9 and 10).
+#![tactic(auto)]
+
 mod decrypt;
 
 ghost use Rattle.std.specs.Prelude.{◌≡◌, length};
@@ -14,7 +16,7 @@ use message_mac::{mac_matches, truncated};
 use refusal::Refusal;
 use session_suite::Suite;
 
-#[derive(Drop)]
+#[derive(Clone, Copy)]
 pub enum Verified {
     // The length of the data that stands in the caller's buffer.
     Data(usize),

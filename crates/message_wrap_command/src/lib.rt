@@ -1,4 +1,6 @@
 // The host wraps a command (SP 800-73-4 Part 2, 4.2.2 to 4.2.4). checks.rt gives refusals 1 to 6; write.rt writes a command that passes.
+#![tactic(auto)]
+
 mod checks;
 mod objects;
 mod write;

@@ -1,5 +1,7 @@
 // The card wraps a response (SP 800-73-4 Part 2, 4.2.2 and 4.2.5). checks.rt gives refusals 1, 2, 3, 4 and 6; write.rt writes a response that
 // passes.
+#![tactic(auto)]
+
 mod checks;
 mod objects;
 mod write;

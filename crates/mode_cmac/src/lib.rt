@@ -1,4 +1,6 @@
 // CMAC with AES (SP 800-38B): the subkeys, and the MAC of a message that comes in parts.
+#![tactic(auto)]
+
 ghost use Rattle.std.specs.Prelude.{◌≡◌, ◌<◌, length};
 ghost use Rattle.aes.specs.Aes.{ciph};
 ghost use Rattle.mode_cmac.specs.Running.{start, flush, add, absorb, finish, Absorbed};
@@ -52,14 +54,14 @@ pub fn subkey2(size: KeySize, w: &[[u8; 4]; 60]) -> [u8; 16]
 
 // The state between two parts of a message: `chain` is C_(i-1) with the `len` bytes of the current block added.
 // A `len` above 16, which no call gives, is treated as 16.
-#[derive(Drop)]
+#[derive(Clone, Copy)]
 pub struct Cmac {
     pub chain: [u8; 16],
     pub len: usize,
 }
 
 // The state after some bytes of a message, and the index of the next.
-#[derive(Drop)]
+#[derive(Clone, Copy)]
 struct Step {
     state: Cmac,
     next: usize,

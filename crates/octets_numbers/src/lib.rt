@@ -1,4 +1,6 @@
 // Numbers in two and four bytes, the highest first: read from a buffer, and written into a caller's.
+#![tactic(auto)]
+
 ghost use Rattle.std.specs.Prelude.{◌≡◌, [], ◌∷◌, ◌+◌, ◌≤◌, length, take, drop};
 ghost use Rattle.octets.specs.Write.{Wrote};
 ghost use Rattle.octets_numbers.specs.BigEndian.{big_endian, number_in};

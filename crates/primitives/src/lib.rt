@@ -1,4 +1,6 @@
 // AES, CBC and CMAC for C (c/include/primitives.h): for the benchmark and the comparison with another library.
+#![tactic(auto)]
+
 ghost use Rattle.std.specs.Prelude.{◌≡◌, ◌≤◌, length};
 ghost use Rattle.octets.specs.Bytes.{zeros};
 ghost use Rattle.octets.specs.Write.{over};
@@ -18,7 +20,7 @@ const MALFORMED: u32 = 7;
 
 const BAD_KEY_LENGTH: u32 = 12;
 
-#[derive(Drop)]
+#[derive(Clone, Copy)]
 enum Key {
     Of(KeySize),
     BadLength,

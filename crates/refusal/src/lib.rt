@@ -1,8 +1,10 @@
 // The refusals of document 01's table "The numbered answers", one for each number.
+#![tactic(auto)]
+
 ghost use Rattle.std.specs.Prelude.{◌≡◌};
 ghost use Rattle.refusal.specs.Refusal.{status_word, tells, number_told, size_told, status_told, number, size, status};
 
-#[derive(Drop)]
+#[derive(Clone, Copy)]
 pub enum Refusal {
     SessionClosed,
     OutOfTurn,
@@ -25,7 +27,7 @@ pub enum Refusal {
 }
 
 // A row of the table: a number alone, 6 with the size needed, or 13 with the status word.
-#[derive(Drop)]
+#[derive(Clone, Copy)]
 pub enum Told {
     Number(u32),
     Size(usize),

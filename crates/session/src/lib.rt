@@ -1,4 +1,6 @@
 // The session of secure messaging: a value that each call takes and gives back (rules 3.1 to 3.4).
+#![tactic(auto)]
+
 ghost use Rattle.std.specs.Prelude.{◌≡◌};
 ghost use Rattle.session_suite.specs.StoredKeys.{KeysOfBytes, keys};
 ghost use Rattle.session.specs.Session.{fresh, closed, closed_at, no_session};
@@ -7,13 +9,13 @@ ghost use Rattle.session.specs.Opening.{not_opened, open_suite, opening};
 use refusal::Refusal;
 use session_suite::{Suite, SuiteNumber, keys_fit, stored, suite_of};
 
-#[derive(Drop)]
+#[derive(Clone, Copy)]
 pub enum Side {
     Host,
     Card,
 }
 
-#[derive(Drop)]
+#[derive(Clone, Copy)]
 pub enum Phase {
     Ready,
     // A command is outstanding: the host waits for its response, the card is to wrap it.
@@ -21,7 +23,7 @@ pub enum Phase {
     Closed,
 }
 
-#[derive(Drop)]
+#[derive(Clone, Copy)]
 pub struct Session {
     pub side: Side,
     pub phase: Phase,
@@ -37,14 +39,14 @@ pub struct Session {
     pub response_mcv: [u8; 16],
 }
 
-#[derive(Drop)]
+#[derive(Clone, Copy)]
 pub enum Opening {
     Opened,
     Refused(Refusal),
 }
 
 // The answer of an opening, and the session; where it is refused, what stands for none.
-#[derive(Drop)]
+#[derive(Clone, Copy)]
 pub struct Opened {
     pub answer: Opening,
     pub session: Session,

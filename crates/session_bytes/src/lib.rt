@@ -1,4 +1,6 @@
 // The session as 138 bytes (rule 8.1): written, read, and saved.
+#![tactic(auto)]
+
 mod read;
 
 ghost use Rattle.std.specs.Prelude.{◌≡◌, ◌+◌, ◌≤◌, length, get_or};
@@ -24,20 +26,20 @@ const REST: u32 = SIZE as u32 - 2;
 
 const VERSION: u8 = 0x01;
 
-#[derive(Drop)]
+#[derive(Clone, Copy)]
 pub enum Decoding {
     Decoded,
     Refused(Refusal),
 }
 
 // The answer of a reading, and the session; where it is refused, what stands for none.
-#[derive(Drop)]
+#[derive(Clone, Copy)]
 pub struct Decoded {
     pub answer: Decoding,
     pub session: Session,
 }
 
-#[derive(Drop)]
+#[derive(Clone, Copy)]
 pub enum Encoding {
     Encoded,
     Refused(Refusal),

@@ -1,4 +1,6 @@
 // Whether a session value keeps rules 8.2 to 8.5: one that breaks them counts as closed.
+#![tactic(auto)]
+
 mod zeros;
 
 ghost use Rattle.std.specs.Prelude.{◌≡◌};

@@ -1,5 +1,7 @@
 // The cipher suites with their numbers and key lengths, and the session keys: as they are handed in, and in the 32 bytes that a
 // session stores.
+#![tactic(auto)]
+
 ghost use Rattle.std.specs.Prelude.{◌≡◌, ◌≤◌, length};
 ghost use Rattle.session_suite.specs.Suites.{key_length, number, suite_of};
 ghost use Rattle.session_suite.specs.StoredKeys.{keys, keys_fit, stored};
@@ -7,14 +9,14 @@ ghost use Rattle.session_suite.specs.StoredKeys.{keys, keys_fit, stored};
 use octets::put_bytes;
 
 // The cipher suites of SP 800-73-4 Part 2, Table 14.
-#[derive(Drop)]
+#[derive(Clone, Copy)]
 pub enum Suite {
     Cs2,
     Cs7,
 }
 
 // What a suite's number stands for.
-#[derive(Drop)]
+#[derive(Clone, Copy)]
 pub enum SuiteNumber {
     Known(Suite),
     Unknown,

@@ -1,4 +1,6 @@
 // Whose turn it is, and the session after a command and after its response (rule 3.3).
+#![tactic(auto)]
+
 ghost use Rattle.std.specs.Prelude.{◌≡◌, ◌<◌};
 ghost use Rattle.session_turn.specs.Turn.{same_side, same_phase, is_turn};
 ghost use Rattle.session_turn.specs.Transitions.{command_taken, response_taken};

@@ -1,5 +1,7 @@
 // What the reader of fields answers to damaged ones (rules 5.1 to 5.13): a command's and a response's field
 // with each byte changed and cut off at each byte, and fields made by hand.
+#![tactic(auto)]
+
 mod made;
 mod row;
 

@@ -2,6 +2,8 @@
 // example vectors of appendix C, for AES-128 and AES-256. One value a line, under appendix C's
 // names, which serve for appendix B too: `start` is its "Start of Round", `s_box` its "After
 // SubBytes", `s_row` "After ShiftRows", `m_col` "After MixColumns", `k_sch` "Round Key Value".
+#![tactic(auto)]
+
 ghost use Rattle.std.specs.Prelude.{◌≤◌, ◌<◌};
 
 use aes_key_expansion::KeySize;

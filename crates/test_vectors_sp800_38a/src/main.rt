@@ -1,4 +1,6 @@
 // SP 800-38A appendix F.2: the CBC examples for AES-128 and AES-256, block by block.
+#![tactic(auto)]
+
 ghost use Rattle.std.specs.Prelude.{◌≤◌};
 
 use aes_key_expansion::KeySize;

@@ -1,4 +1,6 @@
 // SP 800-38B appendix D: the CMAC examples for AES-128 (D.1) and AES-256 (D.3).
+#![tactic(auto)]
+
 use aes_key_expansion::KeySize;
 use mode_cmac::Cmac;
 

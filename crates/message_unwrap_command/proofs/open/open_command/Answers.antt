@@ -1,0 +1,25 @@
+-- `open_command` meets its contract: room, MAC and text, then what the command gives.
+use mathlib.Core.Path.{refl, sym, ◌∙◌}
+use Rattle.message_protocol.specs.Command.{command_accepted, open_command}
+use Rattle.message_result.specs.Results.{command_result}
+use Rattle.message_result.specs.declared.CommandAnswer.TheVariants.{Accepted}
+use Rattle.message_verify.proofs.Opened.{opens_refused, opens_data}
+use Rattle.message_unwrap_command.specs.UnwrapCommand.{payload_of}
+use Rattle.message_unwrap_command.proofs.open.open_command.Goals as goal
+
+pub returns-in-Data : goal.returns-in-Data
+unfolding open_command command_accepted
+returns-in-Data c =
+    let a = c.args in
+    rw (← c.command_counter-counter.ensures)
+    (opens_data a.session command_result payload_of (command_accepted a.session a.le a.full) a.out.now _ _ _ _
+    (sym c.verified_text-text.ensures.answer ∙ c.in-Data.is) c.verified_text-text.ensures.output (λ d. refl)
+    (λ d l i. record { answer = Accepted (l i) a.le; session = c.command_taken-next.ensures i }))
+
+pub returns-in-Refused : goal.returns-in-Refused
+unfolding open_command
+returns-in-Refused c =
+    let a = c.args in
+    rw (← c.command_counter-counter.ensures)
+    (opens_refused a.session command_result payload_of (command_accepted a.session a.le a.full) a.out.now _ _ _ _
+    (sym c.verified_text-text.ensures.answer ∙ c.in-Refused.is) c.verified_text-text.ensures.output c.refused_command.ensures)

@@ -1,0 +1,37 @@
+-- `read_command` meets its contract: the objects are opened, or a breach or a lack refuses them.
+use mathlib.Core.Path.{sym, ap, ◌∙◌}
+use Rattle.field_expected.specs.declared.Wanted.{Wanted}
+use Rattle.field_read.specs.Field.{read_field}
+use Rattle.field_laws.proofs.AcceptedRules.{conforms}
+use Rattle.message_permission.specs.Permission.{command_wanted}
+use Rattle.message_result.specs.Results.{command_result}
+use Rattle.message_result.proofs.StageEnds.{stage_goes_on, stage_refused}
+use Rattle.message_verify.proofs.Stages.{when_read, when_malformed, when_missing}
+use Rattle.message_unwrap_command.specs.UnwrapCommand.{open_objects, payload_of}
+use Rattle.message_unwrap_command.proofs.read_command.Goals as goal
+
+pub open_objects-requires : goal.open_objects-requires
+open_objects-requires c =
+    let is_read = c.read_field-read.ensures ∙ ap (λ (w : Wanted). read_field w c.args.field.now) c.command_wanted.ensures in
+    (c.requires, conforms (command_wanted c.args.ins) c.args.field.now _ (sym is_read ∙ c.in-Read.is))
+
+pub returns-in-Read : goal.returns-in-Read
+returns-in-Read c =
+    let a = c.args in
+    let is_read = c.read_field-read.ensures ∙ ap (λ (w : Wanted). read_field w a.field.now) c.command_wanted.ensures in
+    stage_goes_on a.session command_result payload_of a.out.now
+    (when_read _ _ _ (sym is_read ∙ c.in-Read.is)) c.open_objects.ensures
+
+pub returns-in-Malformed : goal.returns-in-Malformed
+returns-in-Malformed c =
+    let a = c.args in
+    let is_read = c.read_field-read.ensures ∙ ap (λ (w : Wanted). read_field w a.field.now) c.command_wanted.ensures in
+    stage_refused a.session command_result payload_of a.out.now
+    (when_malformed _ _ _ (sym is_read ∙ c.in-Malformed.is)) c.refused_command.ensures
+
+pub returns-in-Missing : goal.returns-in-Missing
+returns-in-Missing c =
+    let a = c.args in
+    let is_read = c.read_field-read.ensures ∙ ap (λ (w : Wanted). read_field w a.field.now) c.command_wanted.ensures in
+    stage_refused a.session command_result payload_of a.out.now
+    (when_missing _ _ _ _ (sym is_read ∙ c.in-Missing.is)) c.refused_command-in-Missing.ensures

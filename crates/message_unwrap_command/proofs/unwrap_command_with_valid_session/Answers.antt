@@ -1,0 +1,30 @@
+-- `unwrap_command_with_valid_session` meets its contract: refused by a test, or read.
+use mathlib.Core.Path.{sym, ◌∙◌}
+use lib.ListN.{length}
+use Rattle.message_protocol.specs.Command.{card_unwraps}
+use Rattle.message_protocol.proofs.CallCases.{may_unwrap_command}
+use Rattle.message_result.specs.Results.{command_result}
+use Rattle.message_result.proofs.Checks.{was_passed, tests_passed, test_refused}
+use Rattle.message_result.proofs.StageEnds.{stage_goes_on, stage_refused}
+use Rattle.message_unwrap_command.specs.UnwrapCommand.{payload_of}
+use Rattle.message_unwrap_command.proofs.unwrap_command_with_valid_session.Goals as goal
+
+pub read_command-requires : goal.read_command-requires
+read_command-requires c =
+    let a = c.args in
+    (may_unwrap_command a.session a.ins (length a.field.now) tt
+    (was_passed _ (sym c.unwrap_command_checks-checked.ensures ∙ c.in-Passed.is))).counted
+
+pub returns-in-Passed : goal.returns-in-Passed
+unfolding card_unwraps
+returns-in-Passed c =
+    let a = c.args in
+    stage_goes_on a.session command_result payload_of a.out.now
+    (tests_passed _ _ (sym c.unwrap_command_checks-checked.ensures ∙ c.in-Passed.is)) c.read_command.ensures
+
+pub returns-in-Refused : goal.returns-in-Refused
+unfolding card_unwraps
+returns-in-Refused c =
+    let a = c.args in
+    stage_refused a.session command_result payload_of a.out.now
+    (test_refused _ _ (sym c.unwrap_command_checks-checked.ensures ∙ c.in-Refused.is)) c.refused_command.ensures

@@ -1,0 +1,21 @@
+-- `unwrap_response` meets its contract: a session that breaks the rules counts as closed.
+use borrow.Author.Tests.{not-true, not-false}
+use Rattle.octets.proofs.Tests.{outcome}
+use Rattle.session_rules.proofs.KeepsTheRules.{broken_not_served}
+use Rattle.message_answer.proofs.Required.{first_refused}
+use Rattle.message_protocol.specs.Response.{unwrap_response_checks, host_unwraps}
+use Rattle.message_result.specs.Results.{response_result}
+use Rattle.message_result.proofs.StageEnds.{stage_refused}
+use Rattle.message_unwrap_response.specs.UnwrapResponse.{payload_of}
+use Rattle.message_unwrap_response.proofs.unwrap_response.Goals as goal
+
+pub returns-then-not-valid : goal.returns-then-not-valid
+unfolding host_unwraps unwrap_response_checks
+returns-then-not-valid c =
+    let a = c.args in
+    stage_refused a.session response_result payload_of a.out.now
+    (first_refused _ _ _ _ (broken_not_served a.session (outcome _ c.valid.ensures (not-true _ c.if-not-valid.true))))
+    c.refused_response.ensures
+
+pub unwrap_response_with_valid_session-requires : goal.unwrap_response_with_valid_session-requires
+unwrap_response_with_valid_session-requires c = outcome _ c.valid.ensures (not-false _ c.if-not-valid.false)

@@ -1,0 +1,37 @@
+-- `pivsm_cbc_decrypt` meets its contract: the three ways of `Results`; the data is whole where CBC says that it is done.
+use mathlib.Core.Path.{sym, ◌∙◌}
+use mathlib.Core.List.{List}
+use borrow.Author.Tests.{ne_eqb}
+use Rattle.octets.specs.Bytes.{Bytes}
+use Rattle.aes.specs.Aes.{inv_ciph, inv_aes}
+use Rattle.aes_key_expansion.specs.declared.KeySize.{KeySize}
+use Rattle.mode_cbc.specs.Cbc.{cbc_decrypt}
+use Rattle.primitives.proofs.Results.{key_fits, bad_key, malformed, cbc_done, cbc_partial}
+use Rattle.primitives.proofs.pivsm_cbc_decrypt.Goals as goal
+
+abbrev cbc : KeySize → List Bytes → Bytes → Bytes → Bytes
+cbc size w = cbc_decrypt (inv_ciph size w)
+
+pub returns-in-Done : goal.returns-in-Done
+unfolding inv_aes
+returns-in-Done c =
+    let a = c.args in
+    cbc_done a.key.now a.iv.now a.«data».now _ (sym c.key_size.ensures ∙ c.in-Of.is)
+    c.if-iv-ne16.false cbc c.expanded-w.ensures c.block_at.ensures c.decrypt.ensures.answer c.decrypt.ensures.buffer c.in-Done.is
+
+pub returns-in-PartialBlock : goal.returns-in-PartialBlock
+unfolding inv_aes
+returns-in-PartialBlock c =
+    let a = c.args in
+    cbc_partial a.key.now a.iv.now a.«data».now _ (sym c.key_size.ensures ∙ c.in-Of.is)
+    c.if-iv-ne16.false cbc c.expanded-w.ensures c.block_at.ensures c.decrypt.ensures.answer c.decrypt.ensures.buffer c.in-PartialBlock.is
+
+pub returns-in_default : goal.returns-in_default
+returns-in_default c = bad_key _ _ _ _ (sym c.key_size.ensures ∙ c.in_default.is)
+
+pub returns-then-iv-ne16 : goal.returns-then-iv-ne16
+returns-then-iv-ne16 c = malformed _ _ _ _ _ (sym c.key_size.ensures ∙ c.in-Of.is)
+    (simp (ne_eqb _ _ c.if-iv-ne16.true))
+
+pub expanded-w-requires : goal.expanded-w-requires
+expanded-w-requires c = key_fits _ _ (sym c.key_size.ensures ∙ c.in-Of.is)
