@@ -7,10 +7,8 @@ use lib.ListN.{length, get_or, take, length-set}
 use lib.Seq.{take_all}
 use Rattle.octets.specs.Bytes.{Bytes, tabulate}
 use Rattle.octets.proofs.Tabulate.{tabulate_store, tabulate_part}
+use Rattle.octets_blocks.proofs.block_at.Invariants.{byte}
 use Rattle.octets_blocks.proofs.block_at.Goals as goal
-
-abbrev byte : Bytes → ℕ → ℕ → ℕ
-byte bytes at i = get_or bytes (at + i) 0
 
 pub loop-i-init : goal.loop-i-init
 loop-i-init c = (search rules, refl, refl)

@@ -7,10 +7,8 @@ use lib.ListN.{length, get_or, take, length-set}
 use lib.Seq.{take_all}
 use Rattle.octets.specs.Bytes.{Bytes, ◌⊕◌, tabulate}
 use Rattle.octets.proofs.Tabulate.{tabulate_store, tabulate_xor}
+use Rattle.octets_blocks.proofs.xor_block.Invariants.{sum}
 use Rattle.octets_blocks.proofs.xor_block.Goals as goal
-
-abbrev sum : Bytes → Bytes → ℕ → ℕ
-sum a b i = get_or a i 0 ⊕ get_or b i 0
 
 pub loop-i-init : goal.loop-i-init
 loop-i-init c = (search rules, refl, refl)
