@@ -18,7 +18,7 @@ overflow_add-end c = omega (arith, bounds c.args.size)
 
 pub loop-i-init : goal.loop-i-init
 loop-i-init c =
-    (search rules, search rules, filled_none c.nk-n.result c.args.t2)
+    (search rules, search rules, filled_none c.nk-n.result c.args.key)
 
 pub next_word-requires : goal.next_word-requires
 next_word-requires c =
@@ -44,7 +44,7 @@ loop-i-preserved c =
     let e : n.result ≡ nk a.size = n.ensures in (
       omega arith,
       simp length-set L.invariant.1,
-      filled_more n.result a.t2 L.i (omega (arith, bounds a.size, e)) (omega (arith, bounds a.size, c.rounds.ensures)) L.invariant.2 c.next_word.ensures,
+      filled_more n.result a.key L.i (omega (arith, bounds a.size, e)) (omega (arith, bounds a.size, c.rounds.ensures)) L.invariant.2 c.next_word.ensures,
     )
 
 pub returns : goal.returns
@@ -53,7 +53,7 @@ returns c =
     let a = c.args in
     let L = c.loop-i in
     let e : L.i ≡ 4 * nr a.size + 4 = omega (arith, c.rounds.ensures) in
-    L.invariant.2 ∙ ap₂ (λ (n i : ℕ). filled n a.t2 i) c.nk-n.ensures e
+    L.invariant.2 ∙ ap₂ (λ (n i : ℕ). filled n a.key i) c.nk-n.ensures e
 
 pub loop-i-smaller : goal.loop-i-smaller
 loop-i-smaller c = omega arith

@@ -10,7 +10,7 @@ use Rattle.aes_mix_columns.proofs.mix_column.Goals as goal
 pub returns : goal.returns
 unfolding mix_column
 returns c =
-    let s = c.args.t1 in
+    let s = c.args.s in
     let same : (r : ℕ) → get_or s r 0 ≡ get_or s r 0 = λ r. refl in
     four
     (sum c.times_02.ensures c.times_03.ensures (same 2) (same 3))

@@ -9,4 +9,4 @@ pub put_bytes-requires : goal.put_bytes-requires
 put_bytes-requires c = let w = c.put_bytes-n.ensures in omega (arith, w.end, wrote_length (omega arith) w)
 
 pub returns : goal.returns
-returns c = rw (mac_bytes c.args.t3 (search rules)) (wrote_then (omega arith) c.put_bytes-n.ensures c.put_bytes.ensures)
+returns c = rw (mac_bytes c.args.mac (search rules)) (wrote_then (omega arith) c.put_bytes-n.ensures c.put_bytes.ensures)

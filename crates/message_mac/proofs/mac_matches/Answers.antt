@@ -17,18 +17,18 @@ pub loop-i-preserved : goal.loop-i-preserved
 loop-i-preserved c =
     let L = c.loop-i in
     let a = c.args in
-    let n : length a.t2 ≡ 8 = search rules in
-    (same_more L.differ a.received.now a.t2 L.i (omega arith) (omega (arith, n)) L.invariant.0, omega arith)
+    let n : length a.mac ≡ 8 = search rules in
+    (same_more L.differ a.received.now a.mac L.i (omega arith) (omega (arith, n)) L.invariant.0, omega arith)
 
 pub returns : goal.returns
 returns c =
     let L = c.loop-i in
     let a = c.args in
-    let n : length a.t2 ≡ 8 = search rules in
+    let n : length a.mac ≡ 8 = search rules in
     let e : L.i ≡ 8 = omega arith in
     L.invariant.0
-    ∙ ap (λ (k : ℕ). same (take k a.received.now) (take k a.t2)) e
-    ∙ ap₂ same (take_all 8 a.received.now (omega arith)) (take_all 8 a.t2 (omega (arith, n)))
+    ∙ ap (λ (k : ℕ). same (take k a.received.now) (take k a.mac)) e
+    ∙ ap₂ same (take_all 8 a.received.now (omega arith)) (take_all 8 a.mac (omega (arith, n)))
 
 pub loop-i-smaller : goal.loop-i-smaller
 loop-i-smaller c = omega arith

@@ -12,4 +12,4 @@ returns c =
     let a = c.args in
     let n : length a.sk-rmac ≡ 32 = search rules in
     simp (c.finish.ensures, c.absorb-whole.ensures, c.absorb-chained.ensures, c.start.ensures, c.key_size-size.ensures, c.expanded-w.ensures)
-    (in_two_parts a.suite a.sk-rmac n a.t3 a.covered.now)
+    (in_two_parts a.suite a.sk-rmac n a.mcv a.covered.now)

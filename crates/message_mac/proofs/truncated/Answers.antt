@@ -8,12 +8,12 @@ use Rattle.octets.proofs.Writing.{wrote_all, over_full}
 use Rattle.message_mac.proofs.truncated.Goals as goal
 
 pub slice_bounds-put_bytes-end-2 : goal.slice_bounds-put_bytes-end-2
-slice_bounds-put_bytes-end-2 c = let n : length c.args.t1 ≡ 16 = search (rules, c.well_formed) in sym (length-take-le _ c.args.t1 (omega (arith, n)))
+slice_bounds-put_bytes-end-2 c = let n : length c.args.full ≡ 16 = search (rules, c.well_formed) in sym (length-take-le _ c.args.full (omega (arith, n)))
 
 pub put_bytes-requires : goal.put_bytes-requires
-put_bytes-requires c = let n : length c.args.t1 ≡ 16 = search (rules, c.well_formed) in simp length-take (omega (arith, n))
+put_bytes-requires c = let n : length c.args.full ≡ 16 = search (rules, c.well_formed) in simp length-take (omega (arith, n))
 
 pub returns : goal.returns
 returns c =
-    let n : length c.args.t1 ≡ 16 = search (rules, c.well_formed) in
+    let n : length c.args.full ≡ 16 = search (rules, c.well_formed) in
     wrote_all c.put_bytes.ensures ∙ over_full _ _ (simp length-take (omega (arith, n)))

@@ -17,14 +17,14 @@ loop-i-init c = (search rules, refl, refl)
 pub loop-i-preserved : goal.loop-i-preserved
 loop-i-preserved c =
     let l = c.loop-i in
-    let x = c.args.t1 in
+    let x = c.args.x in
     (omega arith, simp length-set l.invariant.1, tabulate_store l.i (shifted_byte x) l.r l.invariant.2 (omega arith))
 
 pub returns : goal.returns
 unfolding shift_left
 returns c =
     let l = c.loop-i in
-    let x = c.args.t1 in
+    let x = c.args.x in
     let e : l.i ≡ 15 = omega arith in
     let first : take 15 l.r ≡ tabulate 15 (shifted_byte x) = rw e at l.invariant.2 in
     set_split l.r 15 (get_or x 15 0 * 2 % 256) (omega arith)

@@ -17,15 +17,15 @@ pub loop-i-preserved : goal.loop-i-preserved
 loop-i-preserved c =
     let l = c.loop-i in
     let args = c.args in
-    (omega arith, simp length-set l.invariant.1, tabulate_store l.i (sum args.t1 args.t2) l.block l.invariant.2 (omega arith))
+    (omega arith, simp length-set l.invariant.1, tabulate_store l.i (sum args.a args.b) l.block l.invariant.2 (omega arith))
 
 pub returns : goal.returns
 returns c =
     let l = c.loop-i in
     let args = c.args in
     let e : l.i ≡ 16 = omega arith in
-    let all : take 16 l.block ≡ tabulate 16 (sum args.t1 args.t2) = rw e at l.invariant.2 in
-    sym (take_all 16 l.block (omega arith)) ∙ all ∙ tabulate_xor 16 args.t1 args.t2 (search rules) (search rules)
+    let all : take 16 l.block ≡ tabulate 16 (sum args.a args.b) = rw e at l.invariant.2 in
+    sym (take_all 16 l.block (omega arith)) ∙ all ∙ tabulate_xor 16 args.a args.b (search rules) (search rules)
 
 pub bounds-a-i : goal.bounds-a-i
 bounds-a-i c = omega arith

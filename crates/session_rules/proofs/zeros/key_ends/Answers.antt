@@ -11,9 +11,9 @@ use Rattle.session_rules.proofs.zeros.key_ends.Goals as goal
 pub returns : goal.returns
 returns c =
     let a = c.args in
-    let h : length a.t1 ≡ 32 = search rules in
-    c.all_zero.ensures ∙ ap all_zero (take_all (32 - a.n) (drop a.n a.t1) (omega (
+    let h : length a.key ≡ 32 = search rules in
+    c.all_zero.ensures ∙ ap all_zero (take_all (32 - a.n) (drop a.n a.key) (omega (
       arith,
       h,
-      length-drop a.n a.t1,
+      length-drop a.n a.key,
     )))
