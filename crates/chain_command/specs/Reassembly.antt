@@ -1,4 +1,4 @@
--- Document 01, "The wire": a command field is put together again from its fragments ("joining"). Assumes nothing.
+-- Rules 7.3 to 7.5: a command field is put together again from its fragments (reassembling is also called "joining").
 use Rattle.std.specs.Prelude.{Bool, ◌&&◌, ◌||◌, ℕ, ◌+◌, eqb, leb, length}
 use Rattle.octets.specs.Bytes.{Bytes}
 use Rattle.octets.specs.Choice.{if◌then◌else◌}

@@ -1,4 +1,4 @@
--- Document 01, "The wire": a response field asked for until it is whole, and the chains that fragments can lead to. Assumes nothing.
+-- Rules 7.6, 7.7 and 7.9: a response field asked for until it is whole, and the chains that fragments can lead to.
 use Rattle.std.specs.Prelude.{◌≡◌, true, false, List, [], ◌∷◌, ◌++◌, ℕ, zero, suc, ◌*◌, ◌-◌, ◌≤◌, length, get_or}
 use Rattle.octets.specs.Bytes.{Bytes, tabulate}
 use Rattle.octets.specs.Choice.{if◌then◌else◌}

@@ -1,5 +1,5 @@
--- Document 01, "The wire": one fragment of a response field ("cutting"). "A response is handed out in pieces of at most what was asked (one byte, 00 means
--- 256). With n bytes left after a piece the status is the true one for n = 0, 61 n for 1 to 255, 61 00 from 256 on." Assumes nothing.
+-- Rule 7.6: one fragment of a response field (fragmenting is also called "cutting"): as many bytes as Le asks for at most, and a status word that
+-- announces how many are left.
 use Rattle.std.specs.Prelude.{[], ◌∷◌, ◌++◌, ℕ, ◌+◌, ◌-◌, eqb, leb, ltb, length, take, drop}
 use Rattle.octets.specs.Bytes.{Bytes}
 use Rattle.octets.specs.Choice.{if◌then◌else◌}

@@ -1,5 +1,4 @@
--- Document 01, "The wire": a response field is put together again from its fragments ("joining"), and the GET RESPONSE that asks for the next.
--- Assumes nothing.
+-- Rules 7.7 to 7.9: a response field is put together again from its fragments (also called "joining"), and the GET RESPONSE that asks for the next.
 use Rattle.std.specs.Prelude.{Bool, ◌&&◌, ◌||◌, not, [], ◌∷◌, ℕ, ◌+◌, ◌-◌, eqb, leb, length, get_or, take}
 use Rattle.octets.specs.Bytes.{Bytes}
 use Rattle.octets.specs.Choice.{if◌then◌else◌}

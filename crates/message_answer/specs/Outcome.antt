@@ -1,4 +1,4 @@
--- Document 01, "The numbered answers": a call's answer, and the session that it leaves, for every type of session and
+-- Rules 2.2 to 2.4: a call's answer, and the session that it leaves, for every type of session and
 -- its closing.
 use Rattle.std.specs.Prelude.{Bool, ◌||◌, eqb}
 use Rattle.octets.specs.Bytes.{Bytes}

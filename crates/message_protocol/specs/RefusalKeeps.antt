@@ -1,6 +1,5 @@
--- Demand 1: "Any bytes, any session and any turn get an answer from the numbered table in document 01. A refusal changes no byte
--- of a lent output. It keeps the session as it was, save that a wrong MAC or wrong padding closes it and zeroes its keys, count
--- and chaining values." Assumes nothing.
+-- Demand 1 (rule 10.1): every refusal has a number of its call's order, no byte of the caller's buffer changes, and the session stays, but
+-- is closed, field by field, at 9 and 10.
 use Rattle.std.specs.Prelude.{◌≡◌, ◌⊎◌, ℕ}
 use mathlib.Core.List.{List, [], ◌∷◌, Memᴰ}
 use Rattle.octets.specs.Bytes.{Bytes, zeros}
