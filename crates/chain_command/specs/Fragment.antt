@@ -2,7 +2,7 @@
 -- they are numbered from 0.
 use Rattle.std.specs.Prelude.{ℕ, suc, ◌*◌, eqb, leb, ltb, length, take, drop}
 use Rattle.octets.specs.Bytes.{Bytes}
-use Rattle.octets.specs.Choice.{if◌then◌else◌}
+use Rattle.std.specs.Prelude.{if◌then◌else◌}
 use Rattle.chain_parts.specs.Parts.{ceiling}
 use Rattle.refusal.specs.declared.Refusal.TheVariants.{TooLong, BufferTooSmall, BrokenChain, FragmentTooLong}
 use Rattle.message_answer.specs.Answer.{Answer, refused, gave, require◌else◌⨾◌}
