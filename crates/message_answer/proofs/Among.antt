@@ -8,7 +8,7 @@ use Rattle.refusal.specs.declared.Refusal.{Refusal}
 use Rattle.session.specs.Session.{closed}
 use Rattle.session.specs.declared.Session.{Session}
 use Rattle.message_answer.specs.Outcome as any
-use Rattle.message_answer.specs.Answer.{Answer, refused, gave, require◌else◌⨾◌, ◌and-then◌, Outcome, concluded}
+use Rattle.message_answer.specs.Answer.{Answer, refused, gave, require◌else◌⨾◌, ◌and_then◌, Outcome, concluded}
 use Rattle.message_answer.proofs.Required.{not_given_lem}
 
 abbrev pub Among : {A : Type 0} → List ℕ → Answer A → Type 0
@@ -30,7 +30,7 @@ require_among {A} ns true q rest m f = f
 require_among {A} ns false q rest m f = refused_among A ns q m
 
 pub then_among : {A B : Type 0} (ns : List ℕ) (a : Answer A) (more : A → Answer B) → Among ns a → ((x : A) → Among ns (more x)) → Among ns (a and_then more)
-unfolding ◌and-then◌
+unfolding ◌and_then◌
 then_among {A} {B} ns (refused q) more f g = refused_among B ns q (f q refl)
 then_among {A} {B} ns (gave x) more f g = g x
 

@@ -4,7 +4,7 @@ use mathlib.Core.Bool.{Bool, true, false}
 use Prim.Native.Nat.{ℕ}
 use native.Mathlib.Omega.{arith}
 use Rattle.refusal.specs.declared.Refusal.{Refusal}
-use Rattle.message_answer.specs.Outcome.{Answer, refused, gave, require◌else◌⨾◌, ◌and-then◌}
+use Rattle.message_answer.specs.Outcome.{Answer, refused, gave, require◌else◌⨾◌, ◌and_then◌}
 
 pub not_refused : {A : Type 0} {r : Refusal} {x : A} {P : Type 0} → refused r ≡ gave x → P
 not_refused e = let z : ◌≡◌ {A = ℕ} 0 1 = cc in let o : ⊥ = omega arith in absurd o
@@ -31,11 +31,11 @@ require_case Q false r rest stop go = stop
 
 pub then_case : {A B : Type 0} (Q : Answer B → Type 0) (a : Answer A) (more : A → Answer B) → ((r : Refusal) → a ≡ refused r → Q (refused r))
     → ((x : A) → a ≡ gave x → Q (more x)) → Q (a and_then more)
-unfolding ◌and-then◌
+unfolding ◌and_then◌
 then_case Q (refused r) more stop go = stop r refl
 then_case Q (gave x) more stop go = go x refl
 
 pub first_refused : {A B : Type 0} (ok : Bool) (r : Refusal) (rest : Answer A) (more : A → Answer B) → ok ≡ false
     → ((require ok else r ⨾ rest) and_then more) ≡ refused r
-unfolding require◌else◌⨾◌ ◌and-then◌
+unfolding require◌else◌⨾◌ ◌and_then◌
 first_refused ok r rest more e = rw e

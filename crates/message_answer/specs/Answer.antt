@@ -4,7 +4,7 @@ use Rattle.session.specs.Session.{closed}
 use Rattle.session.specs.declared.Session.{Session}
 use Rattle.message_answer.specs.Outcome as any
 pub use Rattle.message_answer.specs.Outcome.{Answer, refused, gave}
-unfoldable pub use Rattle.message_answer.specs.Outcome.{require◌else◌⨾◌, ◌and-then◌, buffer}
+unfoldable pub use Rattle.message_answer.specs.Outcome.{require◌else◌⨾◌, ◌and_then◌, buffer}
 
 abbrev pub Outcome : Type 0 → Type 0
 Outcome A = any.Outcome Session A

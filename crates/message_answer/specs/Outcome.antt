@@ -8,7 +8,7 @@ use Rattle.refusal.specs.Refusal.{number}
 use Rattle.refusal.specs.declared.Refusal.{Refusal}
 use Rattle.refusal.specs.declared.Refusal.TheVariants.{BadMac, BadPadding}
 
-infixr 2 require◌else◌⨾◌ ◌and-then◌
+infixr 2 require◌else◌⨾◌ ◌and_then◌
 pub data Answer (A : Type 0) : Type 0 where
   refused : Refusal → Answer A
   gave : A → Answer A
@@ -18,7 +18,7 @@ unfoldable pub require◌else◌⨾◌ : {A : Type 0} → Bool → Refusal → A
 require ok else r ⨾ rest = if ok then rest else refused r
 
 -- one stage after another
-unfoldable pub ◌and-then◌ : {A B : Type 0} → Answer A → (A → Answer B) → Answer B
+unfoldable pub ◌and_then◌ : {A B : Type 0} → Answer A → (A → Answer B) → Answer B
 refused r and_then more = refused r
 gave a and_then more = more a
 

@@ -34,7 +34,7 @@ use Rattle.message_answer.specs.Message.{CommandHeader, StatusWord, Response, Co
 use Rattle.message_permission.specs.Permission.{ins_permitted, le_need, data_need, command_permitted, status_permitted, command_wanted, response_wanted}
 use Rattle.octets_numbers.specs.BigEndian.{big_endian}
 use Rattle.message_counter.specs.Counter.{command_counter, response_counter}
-use Rattle.message_answer.specs.Answer.{Answer, refused, gave, Out, require◌else◌⨾◌, ◌and-then◌, concluded}
+use Rattle.message_answer.specs.Answer.{Answer, refused, gave, Out, require◌else◌⨾◌, ◌and_then◌, concluded}
 use Rattle.message_answer.specs.Outcome.{after_refusal}
 use Rattle.message_verify.specs.Reading.{objects_of, text_of}
 use Rattle.message_verify.specs.VerifiedText.{verified_text}
@@ -146,7 +146,7 @@ record Answered : Type 0 where
   x10_left : phase_of (host (reply 0) 16).next ≡ 0 ∷ 0 ∷ []
 
 answered : Answered
-unfolding numbers at head bad sw field reply phase_of card host same padding pad padded_length marked mark_before unpad length_field read_length is_shortest rank allowed right_size right_second right_value need◌else◌⨾◌ with_length read_object notedObject ended on_object walk read_field object encrypted_data le_object status_word mac_object command_objects response_objects command_field response_field ciphertext_length encrypted_data_length command_length response_length encoded_header command_mac_input response_mac_input all_zero keys_end keys_zero mcvs_zero keeps_phase valid counts_as_open is_turn ins_permitted le_need data_need command_permitted status_permitted command_wanted response_wanted big_endian command_counter response_counter require◌else◌⨾◌ ◌and-then◌ after_refusal concluded objects_of text_of verified_text command_input wrap_command_checks unwrap_command_checks command_mac command_accepted open_command card_unwraps wrap_response_checks unwrap_response_checks response_mac response_accepted open_response host_unwraps
+unfolding numbers at head bad sw field reply phase_of card host same padding pad padded_length marked mark_before unpad length_field read_length is_shortest rank allowed right_size right_second right_value need◌else◌⨾◌ with_length read_object notedObject ended on_object walk read_field object encrypted_data le_object status_word mac_object command_objects response_objects command_field response_field ciphertext_length encrypted_data_length command_length response_length encoded_header command_mac_input response_mac_input all_zero keys_end keys_zero mcvs_zero keeps_phase valid counts_as_open is_turn ins_permitted le_need data_need command_permitted status_permitted command_wanted response_wanted big_endian command_counter response_counter require◌else◌⨾◌ ◌and_then◌ after_refusal concluded objects_of text_of verified_text command_input wrap_command_checks unwrap_command_checks command_mac command_accepted open_command card_unwraps wrap_response_checks unwrap_response_checks response_mac response_accepted open_response host_unwraps
 answered =
     record {
       counter_1 = refl;

@@ -26,7 +26,7 @@ use Rattle.message_ciphers.specs.Ciphers.{Ciphers}
 use Rattle.message_answer.specs.Message.{CommandHeader, StatusWord, Command, Response, max_command_data, max_response_data, max_command_field, max_response_field, command_limit, CommandGiven}
 use Rattle.message_permission.specs.Permission.{ins_permitted, command_permitted, status_permitted, command_wanted, response_wanted}
 use Rattle.message_counter.specs.Counter.{command_counter, response_counter}
-use Rattle.message_answer.specs.Answer.{Answer, refused, gave, ◌and-then◌, Outcome, Out, concluded, not_given, given}
+use Rattle.message_answer.specs.Answer.{Answer, refused, gave, ◌and_then◌, Outcome, Out, concluded, not_given, given}
 use Rattle.message_verify.specs.Reading.{objects_of}
 use Rattle.message_verify.proofs.Stages.{objects_gave, verified_gave}
 use Rattle.message_protocol.specs.Command.{wrap_command_checks, unwrap_command_checks, command_mac, command_ciphertext, command_wrapped, command_accepted, header_read, host_wraps, open_command, card_unwraps}

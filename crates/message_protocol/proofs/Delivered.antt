@@ -41,7 +41,7 @@ use Rattle.message_ciphers.specs.Aes.{aes_ciphers}
 use Rattle.message_answer.specs.Message.{CommandHeader, Command, Response, max_command_data, max_response_data, command_limit}
 use Rattle.message_permission.specs.Permission.{ins_permitted, data_need, le_need, command_permitted, status_permitted, command_wanted, response_wanted}
 use Rattle.message_counter.specs.Counter.{command_counter, response_counter}
-use Rattle.message_answer.specs.Answer.{Answer, gave, require◌else◌⨾◌, ◌and-then◌, concluded}
+use Rattle.message_answer.specs.Answer.{Answer, gave, require◌else◌⨾◌, ◌and_then◌, concluded}
 use Rattle.message_answer.proofs.Required.{pass}
 use Rattle.message_verify.specs.Reading.{objects_of}
 use Rattle.message_verify.specs.VerifiedText.{received_in, verified_text}
@@ -111,7 +111,7 @@ module _ (C : Ciphers) (L : Laws C) (h c : Session) (m : Command) (wrapRoom unwr
       (pass _ _ _ _ (le-leb (command_length n m.header.le) wrapRoom wrapFits) refl)))))
 
   wraps : host_wraps C h m wrapRoom ≡ record { answer = gave field; next = command_taken h full }
-  unfolding host_wraps concluded command_wrapped ◌and-then◌
+  unfolding host_wraps concluded command_wrapped ◌and_then◌
   wraps = rw wrap_checks
 
   -- what permission says
@@ -190,7 +190,7 @@ module _ (C : Ciphers) (L : Laws C) (h c : Session) (m : Command) (wrapRoom unwr
 
   unwraps : card_unwraps C c m.header.ins m.header.p1 m.header.p2 field unwrapRoom
       ≡ record { answer = gave (record { payload = m.payload; le = m.header.le }); next = command_taken c full }
-  unfolding open_command card_unwraps command_accepted concluded ◌and-then◌ objects_of
+  unfolding open_command card_unwraps command_accepted concluded ◌and_then◌ objects_of
   unwraps = rw (unwrap_checks, back.accepted, text_given, mac_same, back.second)
 
   command_delivered : CommandDelivered C h c m wrapRoom unwrapRoom
@@ -246,7 +246,7 @@ module _ (C : Ciphers) (L : Laws C) (h c : Session) (m : Response) (wrapRoom unw
       (pass _ _ _ _ (le-leb p max_response_data fits) (pass _ _ _ _ (le-leb (response_length p) wrapRoom wrapFits) refl))))
 
   response_wraps : card_wraps C c m wrapRoom ≡ record { answer = gave sent; next = response_taken c whole }
-  unfolding card_wraps concluded response_wrapped ◌and-then◌
+  unfolding card_wraps concluded response_wrapped ◌and_then◌
   response_wraps = rw response_wrap_checks
 
   enc_same : key_in c.suite c.sk_enc ≡ key_in h.suite h.sk_enc
@@ -324,7 +324,7 @@ module _ (C : Ciphers) (L : Laws C) (h c : Session) (m : Response) (wrapRoom unw
       })
 
   response_unwraps : host_unwraps C h m.header sent unwrapRoom ≡ record { answer = gave m; next = response_taken h whole }
-  unfolding open_response host_unwraps response_accepted concluded ◌and-then◌ objects_of
+  unfolding open_response host_unwraps response_accepted concluded ◌and_then◌ objects_of
   response_unwraps = rw (response_unwrap_checks, response_back.accepted, response_text_given, whole_same)
 
   response_delivered : ResponseDelivered C h c m wrapRoom unwrapRoom

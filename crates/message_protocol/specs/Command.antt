@@ -18,7 +18,7 @@ use Rattle.message_ciphers.specs.Ciphers.{Ciphers}
 use Rattle.message_answer.specs.Message.{CommandHeader, Command, max_command_data, max_command_field, command_limit, CommandGiven}
 use Rattle.message_permission.specs.Permission.{ins_permitted, command_permitted, command_wanted}
 use Rattle.message_counter.specs.Counter.{command_counter}
-use Rattle.message_answer.specs.Answer.{Answer, gave, require◌else◌⨾◌, ◌and-then◌, Outcome, Out, concluded}
+use Rattle.message_answer.specs.Answer.{Answer, gave, require◌else◌⨾◌, ◌and_then◌, Outcome, Out, concluded}
 use Rattle.message_verify.specs.Reading.{objects_of}
 use Rattle.message_verify.specs.VerifiedText.{Received, received_in, verified_text}
 

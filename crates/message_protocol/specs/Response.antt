@@ -17,7 +17,7 @@ use Rattle.message_ciphers.specs.Ciphers.{Ciphers}
 use Rattle.message_answer.specs.Message.{StatusWord, Response, max_response_data, max_response_field}
 use Rattle.message_permission.specs.Permission.{status_permitted, response_wanted}
 use Rattle.message_counter.specs.Counter.{response_counter}
-use Rattle.message_answer.specs.Answer.{Answer, gave, require◌else◌⨾◌, ◌and-then◌, Outcome, Out, concluded}
+use Rattle.message_answer.specs.Answer.{Answer, gave, require◌else◌⨾◌, ◌and_then◌, Outcome, Out, concluded}
 use Rattle.message_verify.specs.Reading.{objects_of}
 use Rattle.message_verify.specs.VerifiedText.{Received, received_in, verified_text}
 

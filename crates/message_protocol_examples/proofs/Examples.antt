@@ -41,7 +41,7 @@ use Rattle.message_answer.specs.Message.{CommandHeader, StatusWord, Command, Res
 use Rattle.message_permission.specs.Permission.{ins_permitted, le_need, data_need, command_permitted, status_permitted, command_wanted, response_wanted}
 use Rattle.octets_numbers.specs.BigEndian.{big_endian}
 use Rattle.message_counter.specs.Counter.{command_counter, response_counter}
-use Rattle.message_answer.specs.Answer.{Answer, refused, gave, require◌else◌⨾◌, ◌and-then◌, concluded}
+use Rattle.message_answer.specs.Answer.{Answer, refused, gave, require◌else◌⨾◌, ◌and_then◌, concluded}
 use Rattle.message_answer.specs.Outcome.{after_refusal}
 use Rattle.message_verify.specs.Reading.{objects_of, text_of}
 use Rattle.message_verify.specs.VerifiedText.{verified_text}
@@ -384,7 +384,7 @@ record Computed : Type 0 where
   same_chaining_value : Excepted flat keys begin repeated
 
 computed : Computed
-unfolding ins_of p1_of sw2_of sw2_changed other_ins other_p1 ins_changed p1_changed one_byte_read toy_hash toy_mac xor_all mask toy_encrypt toy_decrypt toy keys verify get_data okay certificate field_of begin exchange two one_byte short counts same padding pad padded_length marked mark_before unpad length_field read_length is_shortest rank allowed right_size right_second right_value need◌else◌⨾◌ with_length read_object notedObject ended on_object walk read_field object encrypted_data le_object status_word mac_object command_objects response_objects command_field response_field ciphertext_length encrypted_data_length command_length response_length encoded_header command_mac_input response_mac_input all_zero keys_end keys_zero mcvs_zero keeps_phase valid counts_as_open is_turn keys_fit open_suite opening data_in ins_permitted le_need data_need command_permitted status_permitted command_wanted response_wanted big_endian command_counter response_counter require◌else◌⨾◌ ◌and-then◌ after_refusal concluded objects_of text_of command_input wrap_command_checks unwrap_command_checks command_mac command_ciphertext command_wrapped command_accepted host_wraps open_command card_unwraps wrap_response_checks unwrap_response_checks response_mac response_ciphertext response_wrapped response_accepted card_wraps open_response host_unwraps chaining_values chaining wrap_entry entryField fields_from accepted_command accepted_response noted entered moved does step run flat among distinct forged received_as other_header other_data authenticate with_le more_commands more_responses header_changed data_changed le_changed status_changed one_wrapped never_wrapped check repeated mac_changed response_again mixed all_bytes response_data_changed entry reply two_outstanding answer_to_nothing field_lost response_field_lost data_of p2_of third_of le_of sw1_of verified_text
+unfolding ins_of p1_of sw2_of sw2_changed other_ins other_p1 ins_changed p1_changed one_byte_read toy_hash toy_mac xor_all mask toy_encrypt toy_decrypt toy keys verify get_data okay certificate field_of begin exchange two one_byte short counts same padding pad padded_length marked mark_before unpad length_field read_length is_shortest rank allowed right_size right_second right_value need◌else◌⨾◌ with_length read_object notedObject ended on_object walk read_field object encrypted_data le_object status_word mac_object command_objects response_objects command_field response_field ciphertext_length encrypted_data_length command_length response_length encoded_header command_mac_input response_mac_input all_zero keys_end keys_zero mcvs_zero keeps_phase valid counts_as_open is_turn keys_fit open_suite opening data_in ins_permitted le_need data_need command_permitted status_permitted command_wanted response_wanted big_endian command_counter response_counter require◌else◌⨾◌ ◌and_then◌ after_refusal concluded objects_of text_of command_input wrap_command_checks unwrap_command_checks command_mac command_ciphertext command_wrapped command_accepted host_wraps open_command card_unwraps wrap_response_checks unwrap_response_checks response_mac response_ciphertext response_wrapped response_accepted card_wraps open_response host_unwraps chaining_values chaining wrap_entry entryField fields_from accepted_command accepted_response noted entered moved does step run flat among distinct forged received_as other_header other_data authenticate with_le more_commands more_responses header_changed data_changed le_changed status_changed one_wrapped never_wrapped check repeated mac_changed response_again mixed all_bytes response_data_changed entry reply two_outstanding answer_to_nothing field_lost response_field_lost data_of p2_of third_of le_of sw1_of verified_text
 computed =
     record {
       counted = refl;

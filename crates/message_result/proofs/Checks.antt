@@ -3,7 +3,7 @@ use mathlib.Core.Path.{◌≡◌, refl, ap}
 use Prim.Native.Nat.{ℕ}
 use native.Mathlib.Omega.{arith}
 use Rattle.refusal.specs.declared.Refusal.{Refusal}
-use Rattle.message_answer.specs.Answer.{Answer, refused, gave, ◌and-then◌}
+use Rattle.message_answer.specs.Answer.{Answer, refused, gave, ◌and_then◌}
 use Rattle.message_result.specs.Results.{checked}
 use Rattle.message_result.specs.declared.Checked.TheVariants.{Passed, Refused}
 
@@ -25,9 +25,9 @@ was_refused (gave u) r e = no_refusal e
 
 module _ {A : Type 0} (a : Answer (Unit {0})) (more : Unit {0} → Answer A) where
   pub tests_passed : checked a ≡ Passed → (a and_then more) ≡ more tt
-  unfolding ◌and-then◌
+  unfolding ◌and_then◌
   tests_passed e = ap (λ (b : Answer (Unit {0})). b and_then more) (was_passed a e)
 
   pub test_refused : {r : Refusal} → checked a ≡ Refused r → (a and_then more) ≡ refused r
-  unfolding ◌and-then◌
+  unfolding ◌and_then◌
   test_refused {r} e = ap (λ (b : Answer (Unit {0})). b and_then more) (was_refused a r e)

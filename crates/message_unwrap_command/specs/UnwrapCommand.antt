@@ -4,7 +4,7 @@ use Rattle.octets.specs.Bytes.{Bytes}
 use Rattle.field_read.specs.Field.{read_field, covered_of}
 use Rattle.field_read.specs.declared.Objects.{Objects}
 use Rattle.session.specs.declared.Session.{Session}
-use Rattle.message_answer.specs.Answer.{Answer, ◌and-then◌, Outcome, Out}
+use Rattle.message_answer.specs.Answer.{Answer, ◌and_then◌, Outcome, Out}
 use Rattle.message_answer.specs.Message.{CommandGiven}
 use Rattle.message_permission.specs.Permission.{command_wanted}
 use Rattle.message_ciphers.specs.Aes.{aes_ciphers}

@@ -7,7 +7,7 @@ use Rattle.octets.specs.Bytes.{Bytes}
 use Rattle.octets.specs.Write.{over}
 use Rattle.refusal.specs.declared.Refusal.{Refusal}
 use Rattle.session.specs.declared.Session.{Session}
-use Rattle.message_answer.specs.Answer.{Answer, refused, gave, ◌and-then◌, Outcome, Out, not_given, given, concluded, buffer}
+use Rattle.message_answer.specs.Answer.{Answer, refused, gave, ◌and_then◌, Outcome, Out, not_given, given, concluded, buffer}
 use Rattle.message_verify.specs.VerifiedText.{verified}
 use Rattle.message_verify.specs.declared.Verified.TheVariants.{Data, Refused}
 
@@ -24,12 +24,12 @@ module _ {G R : Type 0} (s : Session) (f : Out G → R) (writes : G → Bytes) (
       × (out ≡ buffer writes held (concluded s (t and_then (λ d. gave (accepted d)))).answer)
 
   pub opens_refused : (t : Answer Bytes) (r : Refusal) → verified t ≡ Refused r → out ≡ buffer (λ (d : Bytes). d) held t → result ≡ f (not_given s r) → Opens t
-  unfolding ◌and-then◌ concluded buffer
+  unfolding ◌and_then◌ concluded buffer
   opens_refused (refused q) r e o p = let z : r ≡ q = cc in (p ∙ ap (λ (x : Refusal). f (not_given s x)) z, o)
   opens_refused (gave d) r e o p = no_refusal e
 
   pub opens_data : (t : Answer Bytes) (n : ℕ) → verified t ≡ Data n → out ≡ buffer (λ (d : Bytes). d) held t
       → ((d : Bytes) → writes (accepted d).gives ≡ d) → ((d : Bytes) → n ≡ length d → result ≡ f (given (accepted d))) → Opens t
-  unfolding ◌and-then◌ concluded buffer
+  unfolding ◌and_then◌ concluded buffer
   opens_data (refused q) n e o w p = no_data e
   opens_data (gave d) n e o w p = let z : n ≡ length d = cc in (p d z, o ∙ ap (over held) (sym (w d)))

@@ -13,7 +13,7 @@ use Rattle.field_read.specs.declared.Objects.{Objects}
 use Rattle.field_read.specs.declared.FieldRead.{FieldRead}
 use Rattle.field_read.specs.declared.FieldRead.TheVariants.{Read, Malformed as BadField, Missing}
 use Rattle.refusal.specs.declared.Refusal.TheVariants.{Malformed, MissingObject, BufferTooSmall, BadMac, BadPadding as WrongPadding}
-use Rattle.message_answer.specs.Answer.{Answer, refused, gave, require◌else◌⨾◌, ◌and-then◌, buffer}
+use Rattle.message_answer.specs.Answer.{Answer, refused, gave, require◌else◌⨾◌, ◌and_then◌, buffer}
 use Rattle.message_answer.proofs.Required.{not_refused, require_gave}
 use Rattle.message_ciphers.specs.Ciphers.{Ciphers}
 use Rattle.message_ciphers.specs.Aes.{decrypt, aes_ciphers}
@@ -39,15 +39,15 @@ module _ {A : Type 0} (read : FieldRead) (more : Objects → Answer A) where
   after r = objects_of r and_then more
 
   pub when_read : (o : Objects) → read ≡ Read o → (objects_of read and_then more) ≡ more o
-  unfolding objects_of ◌and-then◌ after
+  unfolding objects_of ◌and_then◌ after
   when_read o e = ap after e
 
   pub when_malformed : (b : Breach) → read ≡ BadField b → (objects_of read and_then more) ≡ refused Malformed
-  unfolding objects_of ◌and-then◌ after
+  unfolding objects_of ◌and_then◌ after
   when_malformed b e = ap after e
 
   pub when_missing : (tag end : ℕ) → read ≡ Missing tag end → (objects_of read and_then more) ≡ refused MissingObject
-  unfolding objects_of ◌and-then◌ after
+  unfolding objects_of ◌and_then◌ after
   when_missing tag end e = ap after e
 
 -- ---- room, MAC and text that gave something

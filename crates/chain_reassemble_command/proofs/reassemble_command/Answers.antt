@@ -15,7 +15,7 @@ returns-in-Passed c =
     let a = c.args in
     let e = sym c.reassembly_checks-checked.ensures ∙ c.in-Passed.is in
     let t = c.take_fragment.ensures in
-    record { result = t.0 ∙ sym (result_passed a.chain a.apdu.now a.out.now e); output = t.1 ∙ sym (buffer_passed a.chain a.apdu.now a.out.now e) }
+    record { result = t.result ∙ sym (result_passed a.chain a.apdu.now a.out.now e); output = t.output ∙ sym (buffer_passed a.chain a.apdu.now a.out.now e) }
 
 pub returns-in-Refused : goal.returns-in-Refused
 returns-in-Refused c =

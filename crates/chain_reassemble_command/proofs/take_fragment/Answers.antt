@@ -13,7 +13,7 @@ returns c =
     let b = c.args.apdu.now in
     let read = c.lc-end in
     let e : (5 + read.result) - 5 ≡ read.result = add-sub_cancel_left 5 read.result in
-    let w = rw (e, read.ensures.0) at c.put_bytes-n.ensures in
+    let w = rw (e, read.ensures.value) at c.put_bytes-n.ensures in
     let size : length (data_of b) ≡ lc b = length-take-le (lc b) (drop 5 b) (simp length-drop (omega (arith, c.requires.0))) in
     let end = w.end ∙ ap (λ (n : ℕ). c.args.chain.len + n) size in
     record { result = rw (end, c.is_last.ensures) at c.taken.ensures; output = w.bytes }

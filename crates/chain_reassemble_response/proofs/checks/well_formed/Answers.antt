@@ -1,6 +1,6 @@
 -- `well_formed` meets its contract: a whole status word, then data where more follow, then its length.
 use native.Mathlib.Omega.{arith}
-use borrow.Author.Tests.{not-true, not-false, le-leb, lt-leb}
+use borrow.Author.Tests.{le-leb, lt-leb}
 use lib.ListN.{length}
 use Rattle.octets.proofs.Tests.{outcome}
 use Rattle.chain_response.specs.Reassembly.{well_formed}
@@ -16,7 +16,7 @@ returns-then-not-more_with_data c =
     let b = c.args.bytes.now in
     rw (
       le-leb 2 (length b) c.if-bytes-lt2.false,
-      outcome _ c.more_with_data.ensures (not-true _ c.if-not-more_with_data.true),
+      outcome _ c.more_with_data.ensures c.if-not-more_with_data.true,
     )
 
 pub returns : goal.returns
@@ -25,5 +25,5 @@ returns c =
     let b = c.args.bytes.now in
     rw (
       le-leb 2 (length b) c.if-bytes-lt2.false,
-      outcome _ c.more_with_data.ensures (not-false _ c.if-not-more_with_data.false),
+      outcome _ c.more_with_data.ensures c.if-not-more_with_data.false,
     )
