@@ -131,7 +131,7 @@ def unknown_in_blocks(name, text, names):
 
 def crates_left_out(text):
     for line in (ROOT / "crates.txt").read_text(encoding="utf-8").splitlines():
-        crate = line.split(":")[0]
+        crate = line.split(":")[0].split()[0] if ":" in line else ""
         if line and not line.startswith("#") and not re.search(rf"\b{crate}\b", text):
             yield 0, f"the crate {crate} is not here"
 

@@ -11,7 +11,7 @@ use Rattle.message_ciphers.specs.Ciphers.{Ciphers}
 use Rattle.message_answer.specs.Answer.{refused, buffer}
 use Rattle.message_protocol.specs.Transcript.{Call, wrap_command, unwrap_command, wrap_response, unwrap_response, close, Gives, does}
 
--- the refusals of each call; that they come in document 01's order is in the calls' definitions, and computed in proofs/Answers
+-- the refusals of each call; that they come in the order of rule 2.5 is in the calls' definitions, and computed in proofs/Answers
 abbrev pub order : Call → List ℕ
 order (wrap_command side m room) = 1 ∷ 2 ∷ 3 ∷ 4 ∷ 5 ∷ 6 ∷ []
 order (unwrap_command side ins p1 p2 field room) = 1 ∷ 2 ∷ 3 ∷ 4 ∷ 5 ∷ 7 ∷ 8 ∷ 6 ∷ 9 ∷ 10 ∷ []
