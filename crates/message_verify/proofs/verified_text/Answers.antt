@@ -11,12 +11,12 @@ use Rattle.message_verify.proofs.verified_text.Goals as goal
 pub returns-then-needed-out : goal.returns-then-needed-out
 returns-then-needed-out c =
     let a = c.args in
-    no_room (key_in a.suite a.sk-enc) a.counter a.full (received a.mac.now a.ciphertext.now) a.out.now c.if-needed-out.true
+    no_room (key_in a.suite a.sk_enc) a.counter a.full (received a.mac.now a.ciphertext.now) a.out.now c.if-needed-out.true
 
 pub returns-then-not-mac_matches : goal.returns-then-not-mac_matches
 returns-then-not-mac_matches c =
     let a = c.args in
-    wrong_mac (key_in a.suite a.sk-enc) a.counter a.full (received a.mac.now a.ciphertext.now) a.out.now c.if-needed-out.false
+    wrong_mac (key_in a.suite a.sk_enc) a.counter a.full (received a.mac.now a.ciphertext.now) a.out.now c.if-needed-out.false
     (outcome _ (c.mac_matches.ensures ∙ ap (same a.mac.now) c.truncated.ensures) (not-true _ c.if-not-mac_matches.true))
 
 pub decrypt_text-text-requires : goal.decrypt_text-text-requires
@@ -27,7 +27,7 @@ decrypt_text-text-requires c =
 pub returns-in_default : goal.returns-in_default
 returns-in_default c =
     let a = c.args in
-    wrong_padding (key_in a.suite a.sk-enc) a.counter a.full (received a.mac.now a.ciphertext.now) a.out.now c.if-needed-out.false
+    wrong_padding (key_in a.suite a.sk_enc) a.counter a.full (received a.mac.now a.ciphertext.now) a.out.now c.if-needed-out.false
     (outcome _ (c.mac_matches.ensures ∙ ap (same a.mac.now) c.truncated.ensures)
     (not-false _ c.if-not-mac_matches.false))
     _ _ c.decrypt_text-text.ensures.answer c.decrypt_text-text.ensures.output c.in_default.is
@@ -35,7 +35,7 @@ returns-in_default c =
 pub returns : goal.returns
 returns c =
     let a = c.args in
-    data_verified (key_in a.suite a.sk-enc) a.counter a.full (received a.mac.now a.ciphertext.now) a.out.now c.if-needed-out.false
+    data_verified (key_in a.suite a.sk_enc) a.counter a.full (received a.mac.now a.ciphertext.now) a.out.now c.if-needed-out.false
     (outcome _ (c.mac_matches.ensures ∙ ap (same a.mac.now) c.truncated.ensures)
     (not-false _ c.if-not-mac_matches.false))
     _ _ c.decrypt_text-text.ensures.answer c.decrypt_text-text.ensures.output _ c.in-Data.is
