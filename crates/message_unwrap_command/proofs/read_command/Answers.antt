@@ -20,7 +20,7 @@ returns-in-Read c =
     let a = c.args in
     let is_read = c.read_field-read.ensures ∙ ap (λ (w : Wanted). read_field w a.field.now) c.command_wanted.ensures in
     let m = stage_goes_on a.session command_result payload_of a.out.now
-    (when_read _ _ _ (sym is_read ∙ c.in-Read.is)) c.open_objects.ensures in
+    (when_read _ _ _ (sym is_read ∙ c.in-Read.is)) (c.open_objects.ensures.result, c.open_objects.ensures.output) in
     record { result = m.0; output = m.1 }
 
 pub returns-in-Malformed : goal.returns-in-Malformed

@@ -20,7 +20,7 @@ unfolding card_unwraps
 returns-in-Passed c =
     let a = c.args in
     let m = stage_goes_on a.session command_result payload_of a.out.now
-    (tests_passed _ _ (sym c.unwrap_command_checks-checked.ensures ∙ c.in-Passed.is)) c.read_command.ensures in
+    (tests_passed _ _ (sym c.unwrap_command_checks-checked.ensures ∙ c.in-Passed.is)) (c.read_command.ensures.result, c.read_command.ensures.output) in
     record { result = m.0; output = m.1 }
 
 pub returns-in-Refused : goal.returns-in-Refused

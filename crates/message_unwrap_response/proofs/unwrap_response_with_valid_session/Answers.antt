@@ -17,7 +17,7 @@ unfolding host_unwraps
 returns-in-Passed c =
     let a = c.args in
     let m = stage_goes_on a.session response_result payload_of a.out.now
-    (tests_passed _ _ (sym c.unwrap_response_checks-checked.ensures ∙ c.in-Passed.is)) c.read_response.ensures in
+    (tests_passed _ _ (sym c.unwrap_response_checks-checked.ensures ∙ c.in-Passed.is)) (c.read_response.ensures.result, c.read_response.ensures.output) in
     record { result = m.0; output = m.1 }
 
 pub returns-in-Refused : goal.returns-in-Refused

@@ -30,5 +30,5 @@ returns c =
     let m = stage_goes_on a.session command_result payload_of a.out.now
     (ap₂ (λ (full : Bytes) (r : Received). open_command a.session a.objects.second full r (length a.out.now))
     (sym c.command_mac-full.ensures) (sym (slices_are a.field.now a.objects)))
-    c.open_command.ensures in
+    (c.open_command.ensures.result, c.open_command.ensures.output) in
     record { result = m.0; output = m.1 }
