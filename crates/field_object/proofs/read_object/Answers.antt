@@ -53,7 +53,7 @@ returns-then-bytes-value c =
     let form = sym c.is_shortest.ensures ∙ c.if-not-is_shortest.false in
     let fit = sym c.right_size.ensures ∙ c.if-not-right_size.false in
     let inside = read_within xs (a.at + 1) _ _ read in
-    c.malformed-then-bytes-value.ensures ∙ sym (past_end a.wanted a.after xs a.at ok _ _ read form fit (omega (arith, inside, c.if-bytes-value.true)))
+    c.malformed-then-bytes-value.ensures ∙ sym (past_end a.wanted a.after xs a.at ok _ _ read form fit (omega (arith, inside)))
 
 pub returns-then-not-right_value : goal.returns-then-not-right_value
 returns-then-not-right_value c =
@@ -65,11 +65,11 @@ returns-then-not-right_value c =
     let fit = sym c.right_size.ensures ∙ c.if-not-right_size.false in
     let inside = read_within xs (a.at + 1) _ _ read in
     c.malformed-then-not-right_value.ensures
-    ∙ sym (bad_value a.wanted a.after xs a.at ok _ _ read form fit (omega (arith, inside, c.if-bytes-value.false)) (sym c.right_value.ensures ∙ c.if-not-right_value.true))
+    ∙ sym (bad_value a.wanted a.after xs a.at ok _ _ read form fit (omega (arith, inside)) (sym c.right_value.ensures ∙ c.if-not-right_value.true))
 
 pub overflow_add-result : goal.overflow_add-result
 overflow_add-result c =
-    let a = c.args in omega (arith, read_within a.bytes.now (a.at + 1) _ _ (sym c.read_length.ensures ∙ c.in-Length.is), c.if-bytes-value.false)
+    let a = c.args in omega (arith, read_within a.bytes.now (a.at + 1) _ _ (sym c.read_length.ensures ∙ c.in-Length.is))
 
 pub returns : goal.returns
 returns c =
@@ -80,4 +80,4 @@ returns c =
     let form = sym c.is_shortest.ensures ∙ c.if-not-is_shortest.false in
     let fit = sym c.right_size.ensures ∙ c.if-not-right_size.false in
     let inside = read_within xs (a.at + 1) _ _ read in
-    sym (whole_object a.wanted a.after xs a.at ok _ _ read form fit (omega (arith, inside, c.if-bytes-value.false)) (sym c.right_value.ensures ∙ c.if-not-right_value.false))
+    sym (whole_object a.wanted a.after xs a.at ok _ _ read form fit (omega (arith, inside)) (sym c.right_value.ensures ∙ c.if-not-right_value.false))

@@ -1,5 +1,6 @@
 -- `ended` meets its contract: the objects of the list, one after the other.
 use mathlib.Core.Path.{sym, ap, ◌∙◌}
+use native.Mathlib.Omega.{arith}
 use borrow.Author.Tests.{lt-ltb, le-ltb}
 use Rattle.field_expected.specs.Wanted.{lacks}
 use Rattle.field_read.specs.Field.{ended}
@@ -18,9 +19,9 @@ returns-then-lacks-2 c =
 pub returns-then-after-lt3 : goal.returns-then-after-lt3
 unfolding ended
 returns-then-after-lt3 c =
-    simp (sym c.lacks.ensures ∙ c.if-lacks.false, sym (c.lacks-2.ensures ∙ ap (λ (need : Need). lacks need c.args.objects.second) c.second_need.ensures) ∙ c.if-lacks-2.false, lt-ltb _ _ c.if-after-lt3.true)
+    simp (sym c.lacks.ensures ∙ c.if-lacks.false, sym (c.lacks-2.ensures ∙ ap (λ (need : Need). lacks need c.args.objects.second) c.second_need.ensures) ∙ c.if-lacks-2.false, lt-ltb c.args.after 3 (omega arith))
 
 pub returns : goal.returns
 unfolding ended
 returns c =
-    simp (sym c.lacks.ensures ∙ c.if-lacks.false, sym (c.lacks-2.ensures ∙ ap (λ (need : Need). lacks need c.args.objects.second) c.second_need.ensures) ∙ c.if-lacks-2.false, le-ltb _ _ c.if-after-lt3.false)
+    simp (sym c.lacks.ensures ∙ c.if-lacks.false, sym (c.lacks-2.ensures ∙ ap (λ (need : Need). lacks need c.args.objects.second) c.second_need.ensures) ∙ c.if-lacks-2.false, le-ltb c.args.after 3 (omega arith))
