@@ -1,4 +1,4 @@
-# make test               the gate: documents, format, every proof and program (rt ci), then the C programs over what was proved
+# make test               the gate: documents, every proof and program (rt ci), then the C programs over what was proved
 # make demo               a host reads a card through the C interface (c/examples/example.c): a transcript
 # make check CRATE=NAME   proves one crate and what it uses
 # make edits CRATE=NAME   tries the must-fail edits of one crate
@@ -19,25 +19,22 @@ INCLUDE = -Ic/include -Ic/examples -Ic/tests -Ic/bench
 CFLAGS = -O3 -Wall -Wextra $(INCLUDE)
 C99 = gcc -std=c99 -O2 -Wall -Wextra -Wpedantic $(INCLUDE)
 SANITIZE = -g -fsanitize=address,undefined -fno-sanitize-recover=all
-# Each check writes up to 200 MB to a temporary folder: in memory, where programs can run there and 2 GB are free, that takes a fraction of the time.
-export TMPDIR := $(shell t=/dev/shm/make.$$$$; { cp /bin/true $$t && $$t && test $$(df -Pk /dev/shm | awk 'END { print $$4 }') -gt 2000000; } 2>/dev/null && \
-    echo /dev/shm || echo $${TMPDIR:-/tmp}; rm -f $$t)
 
-# The crates that export the calls of c/include/pivsm.h; those of c/include/primitives.h are in primitives.
-CALLS = $(patsubst crates/%/src/lib.rt,%,$(shell grep -l 'pub extern "C" fn' crates/capi_*/src/lib.rt))
 # Programs whose output stands in c/*/NAME.stdout; that of exchange_calls is exchange's.
 PRINTED = example exchange exchange_calls boundary_cases refusals_write_nothing
 DIFFERENTIAL = $(filter-out %/vectors.c,$(wildcard c/tests/differential/*.c)) c/tests/reference.c
 HEADERS = $(wildcard c/*/*.h c/tests/differential/*.h)
-CODE = crates.txt $(shell find crates -name '*.rt')
+CODE = crates.txt $(shell find crates -path "*/out" -prune -o -name "*.rt" -print)
 
 test: programs
 	@tools/summary.py build/gate
 	@tail -n 1 build/gate | grep '^[0-9]* passed, 0 failed$$'
 
-# rt's last line, with what passed and failed, is kept for the end of `test`.
-gate: documents format
+# rt's last line, with what passed and failed, is kept for the end of `test`. An edit that could not be tried is bad, and fails the gate.
+gate: documents
 	@tools/progress.py --plain build/gate rt ci
+	@grep -q '^rt: ok' build/gate
+	@! grep '^rt: ok.*, [0-9]* bad' build/gate
 
 documents: build/read_object.o | python
 	@tools/check_documents.py
@@ -47,11 +44,6 @@ pictures: | python
 
 help:
 	@sed -n 's/^# \(make .*\)/\1/p' Makefile
-
-# tables.rt stands 16 to a row, as in the standard; the formatter would put each entry on its own line.
-format: build
-	@rt fmt --check >build/format 2>&1 || test -s build/format
-	@! grep -v '/crates/aes_sbox/src/tables.rt is not in the layout$$' build/format
 
 demo:
 	@$(MAKE) -s -j2 build/example
@@ -134,27 +126,20 @@ build/bench_messages: c/bench/bench_messages.c c/bench/turns.c c/bench/plain_aes
 $(PRINTED:%=build/%) $(addprefix build/,vectors differential differential_sanitized compare bench bench_messages): $(HEADERS) | packages build
 
 build/libpivsm.a: $(CODE) | packages python build
-	@$(call archive,$(CALLS))
+	@tools/archive.sh $@ pivsm
 
-# After the other archive, since two rt in one tree are in each other's way.
+# After the other archive, since one rt in a tree waits for another.
 build/libprimitives.a: $(CODE) | build/libpivsm.a
-	@$(call archive,primitives)
-
-# An archive of these crates, once they are proved.
-archive = tools/progress.py $@.log rt check $(1) && tools/archive.sh $@ $(1)
+	@tools/archive.sh $@ primitives_c
 
 check:
 	@test -d 'crates/$(CRATE)/src' || { echo 'make check CRATE=NAME: proves crates/NAME and what it uses'; exit 2; }
-	@rt check $(CRATE)
+	@cd crates/$(CRATE) && rt check
 
-# rt tries the edits of all that a crate uses, too: a copy of the tree, proved already, has this crate's alone.
 edits:
 	@test -d crates/$(CRATE)/must-fail || { echo 'make edits CRATE=NAME: the must-fail edits of crates/NAME'; exit 2; }
-	@rt check $(CRATE)
-	@rm -rf target/edits && mkdir -p target/edits/target
-	@cp -r crates crates.txt target/edits && cp -r target/rlib target/stamp target/log target/edits/target
-	@find target/edits/crates -name must-fail ! -path '*/$(CRATE)/*' -prune -exec rm -r {} +
-	@cd target/edits && rt must-fail $(CRATE)
+	@cd crates/$(CRATE) && rt check
+	@rt must-fail $(CRATE)
 
 # Each installs what is missing.
 packages:
@@ -175,5 +160,5 @@ python:
 build:
 	@mkdir -p build
 
-.PHONY: test gate documents pictures help check edits format programs demo install header vectors differential sanitized mutants \
+.PHONY: test gate documents pictures help check edits programs demo install header vectors differential sanitized mutants \
     printed compare bench packages bench-packages python

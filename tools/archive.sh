@@ -1,22 +1,9 @@
 #!/bin/sh
-# archive.sh - an archive with an object for each of these crates, which are proved. An object has its crate's exported
-# calls alone.
+# archive.sh - the archive of a static library, once its crate and what that uses are proved.
 #
-# usage: archive.sh ARCHIVE CRATE...
+# usage: archive.sh ARCHIVE CRATE
 set -e
 archive=$1
-shift
-folder=$(dirname "$archive")
-number=0
-objects=
-for crate; do
-    number=$((number + 1))
-    if [ -t 1 ]; then printf '\robject %d of %d\033[K' "$number" $#; fi
-    rt staticlib "$crate" >"$folder/staticlib" 2>&1 || { echo; cat "$folder/staticlib"; exit 1; }
-    ar x --output "$folder" "target/staticlib/lib$crate.a"
-    objects="$objects $folder/$crate.o"
-done
-if [ -t 1 ]; then printf '\r\033[K'; fi
-rm -f "$archive"
-# shellcheck disable=SC2086
-ar rcs "$archive" $objects
+crate=$2
+(cd "crates/$crate" && rt lib) >"$archive.log" 2>&1 || { cat "$archive.log"; exit 1; }
+cp "crates/$crate/out/lib$crate.a" "$archive"

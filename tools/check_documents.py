@@ -29,13 +29,13 @@ PAPER = re.compile(r"\bdocuments?[\s/#*|-]+0*(?:[0-9]|90)\b(?!\.\d)", re.IGNOREC
 # Names of tools, of other projects and of parts of a language, which no file here has to define.
 FOREIGN = {"rt", "requires", "ensures", "ls", "sh", "git", "gcc", "bool", "struct", "enum", "lemma"}
 CODE = (".rt", ".antt", ".c", ".h", ".sh", ".py", ".stdout", ".in", "crates.txt", "Makefile")
-MADE = {"libpivsm.a", "libprimitives.a", "pivsm.pc", "target", "build"}
+MADE = {"libpivsm.a", "libprimitives.a", "pivsm.pc", "out", "build"}
 
 
 def files_here():
     """Every file of the repository, without what is built and git's own."""
     for folder, folders, names in os.walk(ROOT):
-        folders[:] = sorted(set(folders) - {".git", "build", "target", "__pycache__"})
+        folders[:] = sorted(set(folders) - {".git", "build", "out", "__pycache__"})
         for name in sorted(set(names) - {".git"}):
             yield str((pathlib.Path(folder) / name).relative_to(ROOT))
 
@@ -96,7 +96,7 @@ class Names:
 
     def known(self, name, folder):
         name = name.removesuffix("()")
-        if name in FOREIGN or name in MADE or name.startswith(("build/", "target/")):
+        if name in FOREIGN or name in MADE or name.startswith("build/"):
             return True
         if re.search(r"^[-./']|[…=]|NAME|:$", name):  # an option, an ellipsis, a placeholder
             return True
@@ -131,7 +131,7 @@ def unknown_in_blocks(name, text, names):
 
 def crates_left_out(text):
     for line in (ROOT / "crates.txt").read_text(encoding="utf-8").splitlines():
-        crate = line.split(":")[0]
+        crate = line.split(":")[0].split()[0] if ":" in line else ""
         if line and not line.startswith("#") and not re.search(rf"\b{crate}\b", text):
             yield 0, f"the crate {crate} is not here"
 

@@ -1,7 +1,7 @@
 #!/usr/bin/env python3
 """Runs rt, keeps what it prints in a file, and shows how far it is.
 
-    progress.py LOG rt check NAME...
+    progress.py LOG rt ci NAME...
     progress.py --plain LOG rt ci
 
 On a terminal one line moves: the crates and edits that are done, the time, and about how much is left. Elsewhere a
@@ -26,7 +26,7 @@ def planned(names):
     uses = {}
     for line in (ROOT / "crates.txt").read_text(encoding="utf-8").splitlines():
         if line and not line.startswith("#"):
-            crate, used = line.split(":")
+            crate, used = line.replace(" staticlib:", ":").split(":")
             uses[crate] = used.split()
     todo, found = list(names or uses), set()
     while todo:

@@ -1,6 +1,6 @@
 #!/bin/sh
 # header_test.sh - pivsm.h compiles alone, as C99 and as C++; the archive's global functions are those that it
-# declares; and each prototype is that of the exported function in crates/capi_*.
+# declares; and each prototype is that of the exported function in crates/pivsm.
 #
 # usage: header_test.sh ARCHIVE
 set -e
@@ -23,7 +23,7 @@ gcc -E -P "$header" | tr '\n' ' ' | tr ';' '\n' | grep -o '[a-z0-9_]* pivsm_[a-z
     sed -E 's/_Bool/bool/g; s/[a-z0-9_]+ *([,)])/\1/g; s/ +([,)])/\1/g; s/, */, /g' | sort >"$work/header"
 
 # The same from the Rattle code: a slice is a pointer and a length.
-cat crates/capi_*/src/lib.rt | tr '\n' ' ' | sed 's/pub extern "C" fn/\n&/g' |
+cat crates/pivsm/src/*.rt | tr '\n' ' ' | sed 's/pub extern "C" fn/\n&/g' |
     sed -nE 's/^pub extern "C" fn ([a-z0-9_]+)\(([^)]*)\) *-> *([a-z0-9]+).*/\3 \1(\2)/p' |
     sed -E 's/,? *\)/)/; s/\( */(/; s/[a-z0-9_]+: //g; s/, +/, /g
         s/&mut \[u8\]/u8 *, usize/g; s/&\[u8\]/const u8 *, usize/g; s/&mut ([a-z0-9]+)/\1 */g

@@ -69,7 +69,7 @@ def layers(canvas, lines):
             name, sentence = line[2:].split(":", 1)
             bands.append((name, sentence.strip(), []))
         elif line and not line.startswith("#"):
-            bands[-1][2].append(line.split(":")[0])
+            bands[-1][2].append(line.split(":")[0].split()[0])
     y = 46
     for name, sentence, crates in bands:
         top = y

@@ -5,7 +5,7 @@ use native.Mathlib.Nat.{mul-le-mul_right, one-mul, zero-mul}
 use native.Mathlib.Omega.{arith}
 use lib.Dec.{eqb}
 use Rattle.octets.specs.Bytes.{◌⊕◌}
-use Rattle.octets.specs.Choice.{if◌then◌else◌}
+use Rattle.std.specs.Prelude.{if◌then◌else◌}
 use Rattle.octets.proofs.Xor.{xor_assoc}
 use Rattle.aes_gf.specs.Field.{x_times, product}
 

@@ -7,7 +7,7 @@ use native.Mathlib.Omega.{arith}
 use lib.Bits.{differ, xor_block, xor_mod, xor_shr}
 use lib.Dec.{eqb}
 use Rattle.octets.specs.Bytes.{◌⊕◌}
-use Rattle.octets.specs.Choice.{if◌then◌else◌}
+use Rattle.std.specs.Prelude.{if◌then◌else◌}
 use Rattle.octets.proofs.Xor.{xor_byte, xor_odd, swap}
 use Rattle.aes_gf.specs.Field.{x_times, product, ◌•◌}
 

@@ -9,7 +9,7 @@ use lib.Dec.{ltb}
 use lib.ListN.{get_or, take, replicate}
 use lib.Seq.{get_or-take}
 use Rattle.octets.specs.Bytes.{Bytes, zeros}
-use Rattle.octets.specs.Choice.{if◌then◌else◌}
+use Rattle.std.specs.Prelude.{if◌then◌else◌}
 use Rattle.octets.proofs.Tabulate.{tabulate_ext}
 use Rattle.aes_state.specs.State.{Word, add_word}
 use Rattle.aes_key_expansion.specs.KeySizes.{nk, nr}

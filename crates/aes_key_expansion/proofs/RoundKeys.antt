@@ -9,7 +9,7 @@ use lib.Dec.{eqb, ltb, lit<}
 use lib.ListN.{get_or, length, replicate, get_or-append, get_or-eq_default}
 use lib.Seq.{get_or_at}
 use Rattle.octets.specs.Bytes.{Bytes, IsBytes, ◌⊕◌, zeros}
-use Rattle.octets.specs.Choice.{if◌then◌else◌}
+use Rattle.std.specs.Prelude.{if◌then◌else◌}
 use Rattle.octets.proofs.ByteStrings.{by_test, byte_at}
 use Rattle.octets.proofs.Tabulate.{get_d_tabulate}
 use Rattle.octets.proofs.Xor.{xor_byte}

@@ -1,7 +1,7 @@
 -- FIPS 197, 5.2: KeyExpansion, stated over the number nk of the key's words.
 use Rattle.std.specs.Prelude.{◌&&◌, List, [], ◌∷◌, ◌++◌, ℕ, zero, suc, ◌+◌, ◌*◌, ◌-◌, ◌/◌, ◌%◌, eqb, ltb, get_or, replicate}
 use Rattle.octets.specs.Bytes.{Bytes, zeros}
-use Rattle.octets.specs.Choice.{if◌then◌else◌}
+use Rattle.std.specs.Prelude.{if◌then◌else◌}
 use Rattle.aes_gf.specs.Field.{x_times}
 use Rattle.aes_state.specs.State.{Word, word, add_word}
 use Rattle.aes_sub_bytes.specs.SubBytes.{sub_word}
@@ -25,7 +25,7 @@ rcon j = x_power (j - 1) ∷ 0 ∷ 0 ∷ 0 ∷ []
 abbrev pub temp : ℕ → ℕ → Word → Word
 temp n i t =
     if eqb (i % n) 0 then add_word (sub_word (rot_word t)) (rcon (i / n)) else
-    if ltb 6 n && eqb (i % n) 4 then sub_word t else t
+    (if ltb 6 n && eqb (i % n) 4 then sub_word t else t)
 
 -- word i of the key
 unfoldable pub key_word : Bytes → ℕ → Word

@@ -5,7 +5,7 @@ use native.Mathlib.Omega.{arith}
 use lib.Dec.{eqb, lit<}
 use lib.ListN.{get_or, length}
 use Rattle.octets.specs.Bytes.{◌⊕◌}
-use Rattle.octets.specs.Choice.{if◌then◌else◌}
+use Rattle.std.specs.Prelude.{if◌then◌else◌}
 use Rattle.octets.proofs.ListsOfFour.{four}
 use Rattle.octets.proofs.Tabulate.{tabulate_get_d}
 use Rattle.octets.proofs.Xor.{xor_byte}

@@ -10,7 +10,7 @@ use borrow.Author.Tests.{eqb-true, eqb-false, eq-eqb, ne_eqb}
 use lib.Bits.{xor_zero_r, xor_self}
 use lib.Dec.{T, eqb, ltb, ltb→lt}
 use Rattle.octets.specs.Bytes.{◌⊕◌}
-use Rattle.octets.specs.Choice.{if◌then◌else◌}
+use Rattle.std.specs.Prelude.{if◌then◌else◌}
 use Rattle.octets.proofs.Table.{both_left, both_right}
 use Rattle.octets.proofs.Xor.{swap, xor_eq}
 use Rattle.aes_gf.specs.Field.{x_times}

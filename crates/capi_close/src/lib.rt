@@ -9,8 +9,7 @@ use capi_session::{replace_session, session_in};
 use session_bytes::Decoding;
 
 // Refusal 16. `bytes` is what the types say of the arguments; the demands use it.
-#[unsafe(no_mangle)]
-pub extern "C" fn pivsm_close(session: &mut [u8], len: &mut usize) -> u32
+pub fn pivsm_close(session: &mut [u8], len: &mut usize) -> u32
     ensures call { left result session.new len.new
         ≡ pivsm_close (given session.old len.old) }
     ensures bytes { IsBytes session.old }

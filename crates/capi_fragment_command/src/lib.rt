@@ -8,8 +8,7 @@ use capi_values::fragment_values;
 use chain_fragment_command::fragment_command;
 
 // Refusals 15, 4, 14 and 6.
-#[unsafe(no_mangle)]
-pub extern "C" fn pivsm_fragment_command(
+pub fn pivsm_fragment_command(
     ins: u8,
     p1: u8,
     p2: u8,

@@ -8,8 +8,7 @@ use capi_values::response_fragment_values;
 use chain_fragment_response::fragment_response;
 
 // Refusals 3, 4, 14 and 6.
-#[unsafe(no_mangle)]
-pub extern "C" fn pivsm_fragment_response(
+pub fn pivsm_fragment_response(
     sw: u16,
     field: &[u8],
     at: usize,

@@ -8,8 +8,7 @@ use chain_reassemble_response::get_response;
 use octets::put_bytes;
 
 // Refusal 6.
-#[unsafe(no_mangle)]
-pub extern "C" fn pivsm_get_response(le: u8, apdu: &mut [u8], written: &mut usize) -> u32
+pub fn pivsm_get_response(le: u8, apdu: &mut [u8], written: &mut usize) -> u32
     ensures { left result apdu.new written.new
         ≡ pivsm_get_response (given le apdu.old) }
 {

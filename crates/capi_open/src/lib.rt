@@ -13,8 +13,7 @@ use session::{Opened, Opening, Session};
 use session_bytes::{Encoding, SIZE, encode};
 
 // Refusals 11, 12 and 6. `bytes` is what the types say of the arguments; the demands use it.
-#[unsafe(no_mangle)]
-pub extern "C" fn pivsm_open_host(
+pub fn pivsm_open_host(
     suite: u32,
     enc: &[u8],
     mac: &[u8],
@@ -31,8 +30,7 @@ pub extern "C" fn pivsm_open_host(
 }
 
 // Refusals 11, 12 and 6.
-#[unsafe(no_mangle)]
-pub extern "C" fn pivsm_open_card(
+pub fn pivsm_open_card(
     suite: u32,
     enc: &[u8],
     mac: &[u8],

@@ -12,8 +12,7 @@ use chain_command::CommandChain;
 use chain_reassemble_command::reassemble_command;
 
 // Refusals 7, 14, 4 and 6. `bytes` is what the types say of the arguments; the demands use it.
-#[unsafe(no_mangle)]
-pub extern "C" fn pivsm_reassemble_command(
+pub fn pivsm_reassemble_command(
     chain: &mut u64,
     apdu: &[u8],
     field: &mut [u8],

@@ -10,8 +10,7 @@ use chain_reassemble_response::reassemble_response;
 use chain_response::ResponseChain;
 
 // Refusals 7, 14, 4 and 6. `bytes` is what the types say of the arguments; the demands use it.
-#[unsafe(no_mangle)]
-pub extern "C" fn pivsm_reassemble_response(
+pub fn pivsm_reassemble_response(
     chain: &mut u64,
     apdu: &[u8],
     field: &mut [u8],

@@ -2,7 +2,7 @@
 -- else and at closing too.
 use Rattle.std.specs.Prelude.{Bool, ◌||◌, ℕ, eqb, leb, length, take}
 use Rattle.octets.specs.Bytes.{Bytes}
-use Rattle.octets.specs.Choice.{if◌then◌else◌}
+use Rattle.std.specs.Prelude.{if◌then◌else◌}
 use Rattle.octets.specs.Write.{over}
 use Rattle.refusal.specs.Refusal.{number}
 use Rattle.refusal.specs.declared.Refusal.TheVariants.{BadMac, BadPadding}

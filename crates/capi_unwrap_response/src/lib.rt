@@ -11,8 +11,7 @@ use message_unwrap_response::unwrap_response_with_valid_session;
 use session_bytes::Decoding;
 
 // Refusals 16, 1, 2, 13, 4, 7 or 8, 6, 9 and 10. `bytes` is what the types say of the arguments; the demands use it.
-#[unsafe(no_mangle)]
-pub extern "C" fn pivsm_unwrap_response(
+pub fn pivsm_unwrap_response(
     session: &mut [u8],
     len: &mut usize,
     sw: u16,

@@ -1,4 +1,4 @@
--- Answers worked out: number, length and status word as document 01's table has them. Assumes nothing.
+-- Answers worked out: number, length and status word as rule 2.1 has them.
 use mathlib.Core.Path.{◌≡◌, refl}
 use mathlib.Core.Bool.{false}
 use Rattle.chain_command.specs.declared.FragmentAnswer.TheVariants.{Fragment}

@@ -1,4 +1,4 @@
--- Document 01, "The numbered answers": the number and the values of each answer of fragmenting and reassembling. Assumes nothing.
+-- Rules 2.1 and 2.2: the number and the values of each answer of fragmenting and reassembling.
 use Rattle.std.specs.Prelude.{false}
 use Rattle.refusal.specs.Refusal.{status_word}
 use Rattle.chain_command.specs.declared.FragmentAnswer.{FragmentAnswer}

@@ -1,5 +1,4 @@
--- Document 01, "The numbered answers": the number and the values of each answer as the calls give it; 0 is the number of one that is not a refusal.
--- Assumes nothing.
+-- Rules 2.1 and 2.2: the number and the values of each answer as the calls give it; 0 is the number of one that is not a refusal.
 use Rattle.std.specs.Prelude.{false, ℕ, ◌/◌, ◌%◌}
 use Rattle.refusal.specs.Refusal.{status_word, number, size, status}
 use Rattle.refusal.specs.declared.Refusal.{Refusal}

@@ -1,4 +1,4 @@
-// The number and the values of each call's answer (document 01, "The numbered answers"), as the calls from C give them.
+// The number and the values of each call's answer (rules 2.1 and 2.2), as the calls from C give them.
 #![tactic(auto)]
 
 ghost use Rattle.std.specs.Prelude.{◌≡◌};

@@ -11,8 +11,7 @@ use message_wrap_command::wrap_command_with_valid_session;
 use session_bytes::Decoding;
 
 // Refusals 16, 1, 2, 3, 4, 5 and 6. `bytes` is what the types say of the arguments; the demands use it.
-#[unsafe(no_mangle)]
-pub extern "C" fn pivsm_wrap_command(
+pub fn pivsm_wrap_command(
     session: &mut [u8],
     len: &mut usize,
     ins: u8,

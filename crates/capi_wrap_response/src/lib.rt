@@ -11,8 +11,7 @@ use message_wrap_response::wrap_response_with_valid_session;
 use session_bytes::Decoding;
 
 // Refusals 16, 1, 2, 3, 4 and 6. `bytes` is what the types say of the arguments; the demands use it.
-#[unsafe(no_mangle)]
-pub extern "C" fn pivsm_wrap_response(
+pub fn pivsm_wrap_response(
     session: &mut [u8],
     len: &mut usize,
     sw: u16,

@@ -1,8 +1,8 @@
--- Document 01, "The wire": the APDUs that carry a command field, "pieces" there. "Each is CLA INS P1 P2 Lc data; CLA '1C' on all but the last, which
--- has '0C' and a final '00'." Assumes nothing.
+-- Rules 7.2 and 7.4: the APDUs that carry a command field ("pieces" is another word for them): CLA, the header, Lc and the data, and on
+-- the last of them one more byte.
 use Rattle.std.specs.Prelude.{Bool, ◌&&◌, ◌||◌, [], ◌∷◌, ◌++◌, ℕ, ◌+◌, eqb, leb, length, get_or, take, drop}
 use Rattle.octets.specs.Bytes.{Bytes}
-use Rattle.octets.specs.Choice.{if◌then◌else◌}
+use Rattle.std.specs.Prelude.{if◌then◌else◌}
 
 -- INS, P1, P2
 pub record Header : Type 0 where

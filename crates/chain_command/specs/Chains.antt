@@ -1,7 +1,7 @@
--- Document 01, "The wire": all the fragments of a command field, one after another, and the chains that fragments can lead to. Assumes nothing.
+-- Rules 7.1, 7.3 and 7.5: all the fragments of a command field, one after another, and the chains that fragments can lead to.
 use Rattle.std.specs.Prelude.{◌≡◌, Bool, true, false, List, [], ◌∷◌, ◌++◌, ℕ, suc, ◌*◌, ◌-◌, ◌≤◌, length}
 use Rattle.octets.specs.Bytes.{Bytes, tabulate}
-use Rattle.octets.specs.Choice.{if◌then◌else◌}
+use Rattle.std.specs.Prelude.{if◌then◌else◌}
 use Rattle.octets.specs.Write.{over}
 use Rattle.refusal.specs.declared.Refusal.TheVariants.{Malformed, BrokenChain}
 use Rattle.chain_command.specs.Apdu.{Header, fragment_apdu, header_of, data_of, is_last, well_formed}

@@ -1,8 +1,8 @@
--- Document 01, "The wire": one fragment of a command field ("cutting"). "Command field of F bytes, piece size p (0 means 255): ⌈F/p⌉ pieces, numbered
--- from 0." Assumes nothing.
+-- Rule 7.1: one fragment of a command field (fragmenting is also called "cutting"). The size that is asked for decides how many there are;
+-- they are numbered from 0.
 use Rattle.std.specs.Prelude.{ℕ, suc, ◌*◌, eqb, leb, ltb, length, take, drop}
 use Rattle.octets.specs.Bytes.{Bytes}
-use Rattle.octets.specs.Choice.{if◌then◌else◌}
+use Rattle.std.specs.Prelude.{if◌then◌else◌}
 use Rattle.chain_parts.specs.Parts.{ceiling}
 use Rattle.refusal.specs.declared.Refusal.TheVariants.{TooLong, BufferTooSmall, BrokenChain, FragmentTooLong}
 use Rattle.message_answer.specs.Answer.{Answer, refused, gave, require◌else◌⨾◌}

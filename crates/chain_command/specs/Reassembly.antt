@@ -1,7 +1,7 @@
--- Document 01, "The wire": a command field is put together again from its fragments ("joining"). Assumes nothing.
+-- Rules 7.3 to 7.5: a command field is put together again from its fragments (reassembling is also called "joining").
 use Rattle.std.specs.Prelude.{Bool, ◌&&◌, ◌||◌, ℕ, ◌+◌, eqb, leb, length}
 use Rattle.octets.specs.Bytes.{Bytes}
-use Rattle.octets.specs.Choice.{if◌then◌else◌}
+use Rattle.std.specs.Prelude.{if◌then◌else◌}
 use Rattle.octets.specs.Write.{put}
 use Rattle.refusal.specs.declared.Refusal.TheVariants.{TooLong, BufferTooSmall, Malformed, BrokenChain}
 use Rattle.message_answer.specs.Message.{max_command_field}

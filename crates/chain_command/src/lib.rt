@@ -1,4 +1,4 @@
-// Command chaining: a command field and the APDUs that carry it (document 01, "The wire"; SP 800-73-4 Part 2, 4.2.4). Types, definitions and
+// Command chaining: a command field and the APDUs that carry it (rules 7.1 to 7.5; SP 800-73-4 Part 2, 4.2.4). Types, definitions and
 // the theorem that the fragments of a field give it back; no code.
 #![tactic(auto)]
 

@@ -1,4 +1,4 @@
-// The APDU of a command fragment, written into the caller's buffer (document 01, "The wire"; SP 800-73-4 Part 2, 4.2.4).
+// The APDU of a command fragment, written into the caller's buffer (rule 7.2; SP 800-73-4 Part 2, 4.2.4).
 ghost use Rattle.std.specs.Prelude.{◌+◌, ◌≤◌, length};
 ghost use Rattle.octets.specs.Write.{Wrote};
 ghost use Rattle.chain_command.specs.Apdu.{header, command_apdu, fragment_apdu};

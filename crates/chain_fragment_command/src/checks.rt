@@ -1,4 +1,4 @@
-// The tests of a command fragment before it is written, in their order (document 01, "The wire").
+// The tests of a command fragment before it is written, in their order (rule 2.5).
 ghost use Rattle.std.specs.Prelude.{◌≡◌};
 ghost use Rattle.chain_command.specs.Apdu.{Header};
 ghost use Rattle.chain_command.specs.Fragment.{fragment_command, fragment_answer};

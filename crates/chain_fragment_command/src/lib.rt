@@ -1,4 +1,4 @@
-// The host fragments a command field: the APDU of one fragment a call (document 01, "The wire"; SP 800-73-4 Part 2, 4.2.4).
+// The host fragments a command field: the APDU of one fragment a call (rules 7.1 and 7.2; SP 800-73-4 Part 2, 4.2.4).
 #![tactic(auto)]
 
 mod apdu;

@@ -1,4 +1,4 @@
-// The parts of a command field: how many fragments it has, which part each holds, and how long its APDU is (document 01, "The wire").
+// The parts of a command field: how many fragments it has, which part each holds, and how long its APDU is (rule 7.1).
 ghost use Rattle.std.specs.Prelude.{◌≡◌, ◌<◌, ◌≤◌, length};
 ghost use Rattle.chain_command.specs.Apdu.{Header};
 ghost use Rattle.chain_command.specs.Fragment.{longest_field, fragment_size, fragment_count, fragment};

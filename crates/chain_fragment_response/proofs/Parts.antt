@@ -9,7 +9,7 @@ use borrow.Author.Tests.{eq-eqb, ne_eqb}
 use lib.Dec.{eqb}
 use lib.ListN.{length, take, drop, length-append}
 use Rattle.octets.specs.Bytes.{Bytes}
-use Rattle.octets.specs.Choice.{if◌then◌else◌}
+use Rattle.std.specs.Prelude.{if◌then◌else◌}
 use Rattle.chain_parts.proofs.PartEnds.{ends_within, part_bytes}
 use Rattle.message_answer.specs.Message.{StatusWord, more_sw1}
 use Rattle.chain_response.specs.Fragment.{asked, announced, fragment_data, fragment_status, next, fragment}
@@ -29,7 +29,7 @@ module _ (sw : StatusWord) (n : ℕ) where
   unfolding fragment_status
   length_status = go (eqb n 0)
     where
-      go : (last : Bool) → length (if last then sw.sw1 ∷ sw.sw2 ∷ [] else more_sw1 ∷ announced n ∷ []) ≡ 2
+      go : (last : Bool) → length (if last then sw.sw1 ∷ sw.sw2 ∷ [] else (more_sw1 ∷ announced n ∷ [])) ≡ 2
       go true = refl
       go false = refl
 

@@ -1,4 +1,4 @@
-// The tests of a response fragment before it is written, in their order (document 01, "The wire").
+// The tests of a response fragment before it is written, in their order (rule 2.5).
 ghost use Rattle.std.specs.Prelude.{◌≡◌, ◌+◌, ◌-◌};
 ghost use Rattle.message_answer.specs.Message.{status};
 ghost use Rattle.chain_response.specs.Fragment.{next, fragment_response, fragment_answer};

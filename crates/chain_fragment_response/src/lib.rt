@@ -1,4 +1,4 @@
-// The card fragments a response field: one fragment with its status word a call (document 01, "The wire"; ISO/IEC 7816-4).
+// The card fragments a response field: one fragment with its status word a call (rule 7.6; ISO/IEC 7816-4).
 #![tactic(auto)]
 
 mod checks;

@@ -1,4 +1,4 @@
-// The parts of a response field: how much is asked for, where a fragment's data ends, and the status word behind it (document 01, "The wire").
+// The parts of a response field: how much is asked for, where a fragment's data ends, and the status word after it (rule 7.6).
 ghost use Rattle.std.specs.Prelude.{◌≡◌, ◌+◌, ◌≤◌, length};
 ghost use Rattle.octets.specs.Write.{Wrote};
 ghost use Rattle.message_answer.specs.Message.{status};

@@ -1,4 +1,4 @@
-// The APDU of a command fragment, as it is read: Lc, and the two exact shapes that are taken (document 01, "The wire").
+// The APDU of a command fragment, as it is read: Lc, and the two exact shapes that are taken (rule 7.4).
 ghost use Rattle.std.specs.Prelude.{◌≡◌, ◌≤◌, length};
 ghost use Rattle.chain_command.specs.Apdu.{lc, is_chained, is_last, well_formed};
 

@@ -1,4 +1,4 @@
-// The tests of a command fragment before it joins the chain, in document 01's order.
+// The tests of a command fragment before it joins the chain, in the order of rule 2.5.
 ghost use Rattle.std.specs.Prelude.{◌≡◌};
 ghost use Rattle.message_result.specs.Results.{checked};
 ghost use Rattle.chain_command.specs.Apdu.{header};

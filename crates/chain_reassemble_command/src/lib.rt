@@ -1,4 +1,4 @@
-// A command field is put together again from its fragments (document 01, "The wire").
+// A command field is put together again from its fragments (rules 7.3 to 7.5).
 #![tactic(auto)]
 
 mod apdu;

@@ -1,4 +1,4 @@
-// The tests of a response fragment before it joins the chain, in document 01's order.
+// The tests of a response fragment before it joins the chain, in the order of rule 2.5.
 ghost use Rattle.std.specs.Prelude.{◌≡◌, ◌||◌, not, ◌≤◌, leb, length};
 ghost use Rattle.message_result.specs.Results.{checked};
 ghost use Rattle.chain_response.specs.Reassembly.{data_length, is_more, well_formed, possible, reassembly_checks};

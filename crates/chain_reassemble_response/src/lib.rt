@@ -1,4 +1,4 @@
-// A response field is put together again from its fragments (document 01, "The wire").
+// A response field is put together again from its fragments (rules 7.7 to 7.9).
 #![tactic(auto)]
 
 mod checks;

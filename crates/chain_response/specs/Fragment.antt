@@ -1,8 +1,8 @@
--- Document 01, "The wire": one fragment of a response field ("cutting"). "A response is handed out in pieces of at most what was asked (one byte, 00 means
--- 256). With n bytes left after a piece the status is the true one for n = 0, 61 n for 1 to 255, 61 00 from 256 on." Assumes nothing.
+-- Rule 7.6: one fragment of a response field (fragmenting is also called "cutting"): as many bytes as Le asks for at most, and a status word that
+-- announces how many are left.
 use Rattle.std.specs.Prelude.{[], ◌∷◌, ◌++◌, ℕ, ◌+◌, ◌-◌, eqb, leb, ltb, length, take, drop}
 use Rattle.octets.specs.Bytes.{Bytes}
-use Rattle.octets.specs.Choice.{if◌then◌else◌}
+use Rattle.std.specs.Prelude.{if◌then◌else◌}
 use Rattle.refusal.specs.declared.Refusal.TheVariants.{NotPermitted, TooLong, BufferTooSmall, BrokenChain}
 use Rattle.message_answer.specs.Message.{StatusWord, more_sw1}
 use Rattle.message_permission.specs.Permission.{status_permitted}
@@ -28,7 +28,7 @@ announced n = if leb n 255 then n else 0x00
 
 -- the status word of a fragment, with n bytes left after it
 unfoldable pub fragment_status : StatusWord → ℕ → Bytes
-fragment_status sw n = if eqb n 0 then sw.sw1 ∷ sw.sw2 ∷ [] else more_sw1 ∷ announced n ∷ []
+fragment_status sw n = if eqb n 0 then sw.sw1 ∷ sw.sw2 ∷ [] else (more_sw1 ∷ announced n ∷ [])
 
 -- the index behind it
 unfoldable pub next : Bytes → ℕ → ℕ → ℕ

@@ -1,8 +1,7 @@
--- Document 01, "The wire": a response field is put together again from its fragments ("joining"), and the GET RESPONSE that asks for the next.
--- Assumes nothing.
+-- Rules 7.7 to 7.9: a response field is put together again from its fragments (also called "joining"), and the GET RESPONSE that asks for the next.
 use Rattle.std.specs.Prelude.{Bool, ◌&&◌, ◌||◌, not, [], ◌∷◌, ℕ, ◌+◌, ◌-◌, eqb, leb, length, get_or, take}
 use Rattle.octets.specs.Bytes.{Bytes}
-use Rattle.octets.specs.Choice.{if◌then◌else◌}
+use Rattle.std.specs.Prelude.{if◌then◌else◌}
 use Rattle.octets.specs.Write.{put}
 use Rattle.refusal.specs.declared.Refusal.TheVariants.{TooLong, BufferTooSmall, Malformed, BrokenChain}
 use Rattle.message_answer.specs.Message.{StatusWord, status, max_response_field, more_sw1}

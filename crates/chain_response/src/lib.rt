@@ -1,4 +1,4 @@
-// Response chaining: a response field and the responses that carry it, asked for by GET RESPONSE (document 01, "The wire"; ISO/IEC 7816-4). Types,
+// Response chaining: a response field and the responses that carry it, asked for by GET RESPONSE (rules 7.6 to 7.9; ISO/IEC 7816-4). Types,
 // definitions and the theorem that the fragments asked for give the field back; no code.
 #![tactic(auto)]
 

@@ -1,8 +1,7 @@
--- Document 01, "Either side of each line": the lines marked M, as one table with a single statement about the definitions that the calls use.
--- Assumes nothing.
+-- Rules 11.1 to 11.5, as one table with a single statement about the definitions that the calls use.
 use Rattle.std.specs.Prelude.{◌≡◌, Bool, true, false, List, [], ◌∷◌, map, ℕ, zero, suc, ◌+◌, ◌-◌, ltb, length, take}
 use Rattle.octets.specs.Bytes.{Bytes, zeros, tabulate}
-use Rattle.octets.specs.Choice.{if◌then◌else◌}
+use Rattle.std.specs.Prelude.{if◌then◌else◌}
 use Rattle.field_size.specs.Lengths.{ciphertext_length, command_length, response_length}
 use Rattle.field_write.specs.Objects.{encrypted_data}
 use Rattle.chain_command.specs.Apdu.{header, lc}

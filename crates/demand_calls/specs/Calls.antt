@@ -157,7 +157,7 @@ abbrev pub response_gave : ResponseAnswer → Bytes → Answer Response
 response_gave (ResponseAccepted n sw1 sw2) out = gave (record { header = record { sw1 = sw1; sw2 = sw2 }; payload = take n out })
 response_gave (ResponseRefused r) out = refused r
 
--- its number and values, as document 01 counts them; a closing always succeeds
+-- its number and values, as rules 2.1 and 2.2 have them; a closing always succeeds
 abbrev pub values : Event → Values
 values (wraps_command side c) = wrap_values c.result.answer
 values (unwraps_command side c) = command_values c.result.answer

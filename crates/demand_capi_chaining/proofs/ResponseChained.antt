@@ -8,7 +8,7 @@ use borrow.Author.Tests.{ne_eqb}
 use lib.Dec.{eqb}
 use lib.ListN.{length, length-map}
 use Rattle.octets.specs.Bytes.{Bytes, IsBytes}
-use Rattle.octets.specs.Choice.{if◌then◌else◌}
+use Rattle.std.specs.Prelude.{if◌then◌else◌}
 use Rattle.refusal.specs.Refusal.{number, status, status_word}
 use Rattle.message_answer.specs.Message.{StatusWord, more_sw1}
 use Rattle.message_answer.specs.Answer.{Answer, refused, gave, buffer}

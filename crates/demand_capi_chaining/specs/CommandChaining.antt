@@ -1,7 +1,7 @@
 -- Demand 2, of the calls from C: a command field is fragmented, by any size that may be asked for, and reassembled.
 use Rattle.std.specs.Prelude.{◌≡◌, false, List, [], ◌∷◌, map, ℕ, suc, ◌≤◌, eqb, length, take}
 use Rattle.octets.specs.Bytes.{Bytes}
-use Rattle.octets.specs.Choice.{if◌then◌else◌}
+use Rattle.std.specs.Prelude.{if◌then◌else◌}
 use Rattle.octets.specs.Write.{over}
 use Rattle.chain_command.specs.Apdu.{Header}
 use Rattle.chain_command.specs.Fragment.{longest_field, max_fragment, fragment_count, fragment}

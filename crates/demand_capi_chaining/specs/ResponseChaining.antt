@@ -1,7 +1,7 @@
 -- Demand 2, of the calls from C: a response field that is asked for fragment by fragment, and reassembled.
 use Rattle.std.specs.Prelude.{◌≡◌, true, List, [], ◌∷◌, map, ℕ, ◌≤◌, eqb, length, take}
 use Rattle.octets.specs.Bytes.{Bytes}
-use Rattle.octets.specs.Choice.{if◌then◌else◌}
+use Rattle.std.specs.Prelude.{if◌then◌else◌}
 use Rattle.octets.specs.Write.{over}
 use Rattle.message_answer.specs.Message.{StatusWord, more_sw1}
 use Rattle.message_permission.specs.Permission.{status_permitted}

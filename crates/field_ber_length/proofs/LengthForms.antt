@@ -11,7 +11,7 @@ use lib.Dec.{eqb, ltb, lit≤}
 use lib.ListN.{length, get_or, take, drop, length-append}
 use lib.Seq.{get_or-append-add, get_or-take, length-take-le, drop-cons}
 use Rattle.octets.specs.Bytes.{Bytes, IsBytes}
-use Rattle.octets.specs.Choice.{if◌then◌else◌}
+use Rattle.std.specs.Prelude.{if◌then◌else◌}
 use Rattle.octets.proofs.ByteStrings.{by_test, byte_at}
 use Rattle.field_ber_length.specs.Length.{length_field, read_length, is_shortest}
 use Rattle.field_ber_length.specs.declared.LengthRead.TheVariants.{Length, BadForm}
@@ -119,8 +119,8 @@ forms xs at n size e =
   where
     by : (s : Bool) → ltb at (length xs) ≡ s → (t : Bool) → ltb (get_or xs at 0) 128 ≡ t → (u : Bool) → eqb (get_or xs at 0) 0x81 ≡ u
         → (v : Bool) → ltb (at + 1) (length xs) ≡ v → (x : Bool) → eqb (get_or xs at 0) 0x82 ≡ x → (y : Bool) → ltb (at + 2) (length xs) ≡ y
-        → (if s then (if t then Length (get_or xs at 0) 1 else if u then (if v then Length (get_or xs (at + 1) 0) 2 else BadForm) else
-        if x then (if y then Length (get_or xs (at + 1) 0 * 256 + get_or xs (at + 2) 0) 3 else BadForm) else BadForm) else BadForm)
+        → (if s then (if t then Length (get_or xs at 0) 1 else (if u then (if v then Length (get_or xs (at + 1) 0) 2 else BadForm) else
+        (if x then (if y then Length (get_or xs (at + 1) 0 * 256 + get_or xs (at + 2) 0) 3 else BadForm) else BadForm))) else BadForm)
         ≡ Length n size → OneByte xs at n size ⊎ (TwoBytes xs at n size ⊎ ThreeBytes xs at n size)
     by false p t o u a v q x b y r f = no_form f
     by true p true o u a v q x b y r f = inl (ltb-true at (length xs) p, (ltb-true (get_or xs at 0) 128 o, (cc, cc)))
@@ -200,7 +200,7 @@ pub length_field_most : (n : ℕ) → length (length_field n) ≤ 3
 unfolding length_field
 length_field_most n = go (ltb n 128) (ltb n 256)
   where
-    go : (s t : Bool) → length (if s then n ∷ [] else if t then 0x81 ∷ n ∷ [] else 0x82 ∷ n / 256 ∷ n % 256 ∷ []) ≤ 3
+    go : (s t : Bool) → length (if s then n ∷ [] else (if t then 0x81 ∷ n ∷ [] else (0x82 ∷ n / 256 ∷ n % 256 ∷ []))) ≤ 3
     go true t = lit≤ tt
     go false true = lit≤ tt
     go false false = lit≤ tt

@@ -1,7 +1,7 @@
 -- BER-TLV length fields of one to three bytes (ISO/IEC 7816-4; rules 5.3 and 5.4).
 use Rattle.std.specs.Prelude.{Bool, [], ◌∷◌, ℕ, ◌+◌, ◌*◌, ◌/◌, ◌%◌, eqb, ltb, length, get_or}
 use Rattle.octets.specs.Bytes.{Bytes}
-use Rattle.octets.specs.Choice.{if◌then◌else◌}
+use Rattle.std.specs.Prelude.{if◌then◌else◌}
 use Rattle.field_ber_length.specs.declared.LengthRead.{LengthRead}
 use Rattle.field_ber_length.specs.declared.LengthRead.TheVariants.{Length, BadForm}
 
@@ -9,8 +9,8 @@ use Rattle.field_ber_length.specs.declared.LengthRead.TheVariants.{Length, BadFo
 unfoldable pub length_field : ℕ → Bytes
 length_field n =
     if ltb n 128 then n ∷ [] else
-    if ltb n 256 then 0x81 ∷ n ∷ [] else
-    0x82 ∷ n / 256 ∷ n % 256 ∷ []
+    (if ltb n 256 then 0x81 ∷ n ∷ [] else
+    (0x82 ∷ n / 256 ∷ n % 256 ∷ []))
 
 -- the length whose field starts at index at, in any form of one to three bytes, and the field's size;
 -- a field that is cut off has no form, nor has '80' alone or one of more than three bytes
@@ -18,9 +18,9 @@ unfoldable pub read_length : Bytes → ℕ → LengthRead
 read_length xs at =
     if ltb at (length xs) then
     (if ltb (get_or xs at 0) 128 then Length (get_or xs at 0) 1 else
-    if eqb (get_or xs at 0) 0x81 then (if ltb (at + 1) (length xs) then Length (get_or xs (at + 1) 0) 2 else BadForm) else
-    if eqb (get_or xs at 0) 0x82 then
-    (if ltb (at + 2) (length xs) then Length (get_or xs (at + 1) 0 * 256 + get_or xs (at + 2) 0) 3 else BadForm) else BadForm)
+    (if eqb (get_or xs at 0) 0x81 then (if ltb (at + 1) (length xs) then Length (get_or xs (at + 1) 0) 2 else BadForm) else
+    (if eqb (get_or xs at 0) 0x82 then
+    (if ltb (at + 2) (length xs) then Length (get_or xs (at + 1) 0 * 256 + get_or xs (at + 2) 0) 3 else BadForm) else BadForm)))
     else BadForm
 
 -- whether a length read from a field of that size stood in its shortest form

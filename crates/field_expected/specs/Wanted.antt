@@ -1,6 +1,6 @@
 -- Rules 5.5 to 5.7: what each side's field may hold, and in which order.
 use Rattle.std.specs.Prelude.{Bool, true, false, ◌&&◌, not, ℕ, eqb, ltb}
-use Rattle.octets.specs.Choice.{if◌then◌else◌}
+use Rattle.std.specs.Prelude.{if◌then◌else◌}
 use Rattle.field_expected.specs.declared.Need.{Need}
 use Rattle.field_expected.specs.declared.Need.TheVariants.{Must, May, MustNot}
 use Rattle.field_expected.specs.declared.Second.{Second}
@@ -47,14 +47,14 @@ need_of (Status sw1 sw2) = Must
 unfoldable pub rank : Second → ℕ → ℕ
 rank second tag =
     if eqb tag tag87 then 1 else
-    if eqb tag (tag_of second) then 2 else
-    if eqb tag tag_8e then 3 else 0
+    (if eqb tag (tag_of second) then 2 else
+    (if eqb tag tag_8e then 3 else 0))
 
 -- whether the tag may stand after an object at place r (0: none): it is in the list, later than that, and not unwanted
 unfoldable pub allowed : Wanted → ℕ → ℕ → Bool
 allowed w r tag =
     ltb r (rank w.second tag)
-    && (if eqb tag tag87 then may w.«data» else if eqb tag tag_8e then true else may (need_of w.second))
+    && (if eqb tag tag87 then may w.«data» else (if eqb tag tag_8e then true else may (need_of w.second)))
 
 -- whether an object may be there, or be absent
 abbrev pub suits : Need → Bool → Bool

@@ -8,7 +8,7 @@ use borrow.Author.Tests.{eqb-true, ltb-false}
 use lib.Dec.{eqb, ltb, lit≤}
 use lib.ListN.{length, get_or}
 use Rattle.octets.specs.Bytes.{Bytes}
-use Rattle.octets.specs.Choice.{if◌then◌else◌}
+use Rattle.std.specs.Prelude.{if◌then◌else◌}
 use Rattle.field_expected.specs.Wanted.{lacks, tag_of, need_of, rank}
 use Rattle.field_object.specs.Object.{read_object}
 use Rattle.field_read.specs.Field.{none, noted, ended, on_object, walk, read_field}
@@ -54,7 +54,7 @@ pub record Accepted (w : Wanted) (xs : Bytes) (p : Objects) : Type 0 where
 -- ---- the places of the tags
 
 abbrev place : Bool → Bool → Bool → ℕ
-place s t u = if s then 1 else if t then 2 else if u then 3 else 0
+place s t u = if s then 1 else (if t then 2 else (if u then 3 else 0))
 
 -- the tags of the list, with their places
 abbrev Which : Second → ℕ → Type 0
@@ -91,7 +91,7 @@ unfolding ended
 ended_read w o r n p e = go (lacks w.«data» (ltb 0 o.ciphertext_len)) (lacks (need_of w.second) o.second) (ltb r 3) refl e
   where
     go : (s t u : Bool) → ltb r 3 ≡ u
-        → (if s then Missing 0x87 n else if t then Missing (tag_of w.second) n else if u then Missing 0x8E n else Read o) ≡ Read p
+        → (if s then Missing 0x87 n else (if t then Missing (tag_of w.second) n else (if u then Missing 0x8E n else Read o))) ≡ Read p
         → (3 ≤ r) × (o ≡ p)
     go true t u g h = none_missing h
     go false true u g h = none_missing h
@@ -108,7 +108,7 @@ ended_complete w o r n p e =
     go (lacks w.«data» (ltb 0 o.ciphertext_len)) refl (lacks (need_of w.second) o.second) refl (ltb r 3) e
   where
     go : (s : Bool) → lacks w.«data» (ltb 0 o.ciphertext_len) ≡ s → (t : Bool) → lacks (need_of w.second) o.second ≡ t → (u : Bool)
-        → (if s then Missing 0x87 n else if t then Missing (tag_of w.second) n else if u then Missing 0x8E n else Read o) ≡ Read p → Complete w o
+        → (if s then Missing 0x87 n else (if t then Missing (tag_of w.second) n else (if u then Missing 0x8E n else Read o))) ≡ Read p → Complete w o
     go true f t g u h = none_missing h
     go false f true g u h = none_missing h
     go false f false g u h = (f, g)

@@ -9,7 +9,7 @@ use lib.Dec.{eqb, ltb, leb}
 use lib.ListN.{length, get_or, drop, length-drop}
 use lib.Seq.{length-take-le}
 use Rattle.octets.specs.Bytes.{Bytes}
-use Rattle.octets.specs.Choice.{if◌then◌else◌}
+use Rattle.std.specs.Prelude.{if◌then◌else◌}
 use Rattle.octets.proofs.Tests.{both}
 use Rattle.field_expected.specs.Wanted.{may, lacks, tag_of, need_of, rank, allowed, suits}
 use Rattle.field_object.specs.Values.{right_size}
@@ -41,13 +41,13 @@ module _ (w : Wanted) (r tag : ℕ) (ok : allowed w r tag ≡ true) where
   data_may : tag ≡ 0x87 → may w.«data» ≡ true
   unfolding allowed
   data_may e =
-      let a = (both (ltb r (rank w.second tag)) (if eqb tag 0x87 then may w.«data» else if eqb tag 0x8E then true else may (need_of w.second)) ok).1 in
+      let a = (both (ltb r (rank w.second tag)) (if eqb tag 0x87 then may w.«data» else (if eqb tag 0x8E then true else may (need_of w.second))) ok).1 in
       rw (eq-eqb tag 0x87 e) at a
 
   second_may : tag ≡ tag_of w.second → may (need_of w.second) ≡ true
   unfolding allowed
   second_may e =
-      let a = (both (ltb r (rank w.second tag)) (if eqb tag 0x87 then may w.«data» else if eqb tag 0x8E then true else may (need_of w.second)) ok).1 in
+      let a = (both (ltb r (rank w.second tag)) (if eqb tag 0x87 then may w.«data» else (if eqb tag 0x8E then true else may (need_of w.second))) ok).1 in
       rw (ne_eqb tag 0x87 (λ q. not_data w.second (sym e ∙ q)), ne_eqb tag 0x8E (λ q. not_mac w.second (sym e ∙ q))) at a
 
 -- ---- sizes

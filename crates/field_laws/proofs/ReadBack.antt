@@ -12,7 +12,7 @@ use lib.Dec.{eqb, ltb}
 use lib.ListN.{length, get_or, take, drop, length-append}
 use lib.Seq.{get_or-append_seam, get_or-append-add, drop-append-add, take-append_seam, take_all}
 use Rattle.octets.specs.Bytes.{Bytes}
-use Rattle.octets.specs.Choice.{if◌then◌else◌}
+use Rattle.std.specs.Prelude.{if◌then◌else◌}
 use Rattle.field_ber_length.specs.Length.{length_field, read_length}
 use Rattle.field_ber_length.specs.declared.LengthRead.TheVariants.{Length}
 use Rattle.field_ber_length.proofs.LengthForms.{read_written, written_shortest}

@@ -26,7 +26,7 @@ use Rattle.field_expected.specs.declared.Wanted.{Wanted}
 use Rattle.field_read.specs.declared.Objects.{Objects}
 use Rattle.field_read.specs.declared.FieldRead.TheVariants.{Read}
 use Rattle.field_laws.proofs.Acceptance.{Part, Optional}
-use Rattle.field_laws.proofs.Determined.{next_of, second_size, second_value, status_value, parts, inside, cut, second_there, status_there, data_start_of, data_length_of, data_noted, optional_behind}
+use Rattle.field_laws.proofs.Determined.{next_of, second_size, second_value, status_value, parts, cut, second_there, status_there, data_start_of, data_length_of, data_noted, optional_behind}
 
 -- one byte more
 next_byte : (xs : Bytes) (i k : ℕ) → i < length xs → take (suc k) (drop i xs) ≡ get_or xs i 0 ∷ take k (drop (i + 1) xs)

@@ -1,7 +1,7 @@
 -- What the bytes before '8E' say, whatever a field has behind them.
 use Rattle.std.specs.Prelude.{◌≡◌, Bool, [], ℕ, ◌+◌, ◌-◌, eqb, ltb, length, get_or, take, drop}
 use Rattle.octets.specs.Bytes.{Bytes}
-use Rattle.octets.specs.Choice.{if◌then◌else◌}
+use Rattle.std.specs.Prelude.{if◌then◌else◌}
 use Rattle.field_expected.specs.Wanted.{tag87}
 use Rattle.field_ber_length.specs.Length.{read_length}
 use Rattle.field_ber_length.specs.declared.LengthRead.{LengthRead}

@@ -1,3 +1,2 @@
 // What holds of fields written by one end and read by the other: theorems, and no code.
 #![tactic(auto)]
-

@@ -8,7 +8,7 @@ use lib.Dec.{eqb, leb, ltb, lit≤}
 use lib.ListN.{length, get_or}
 use Rattle.octets.proofs.Tests.{both}
 use Rattle.octets.specs.Bytes.{Bytes}
-use Rattle.octets.specs.Choice.{if◌then◌else◌}
+use Rattle.std.specs.Prelude.{if◌then◌else◌}
 use Rattle.field_ber_length.specs.Length.{read_length, is_shortest}
 use Rattle.field_ber_length.specs.declared.LengthRead.{LengthRead}
 use Rattle.field_ber_length.specs.declared.LengthRead.TheVariants.{Length, BadForm}
@@ -85,13 +85,13 @@ pub later : (w : Wanted) (r tag : ℕ) → allowed w r tag ≡ true → r < rank
 unfolding allowed
 later w r tag e =
     ltb-true r (rank w.second tag)
-    (both (ltb r (rank w.second tag)) (if eqb tag 0x87 then may w.«data» else if eqb tag 0x8E then true else may (need_of w.second)) e).0
+    (both (ltb r (rank w.second tag)) (if eqb tag 0x87 then may w.«data» else (if eqb tag 0x8E then true else may (need_of w.second))) e).0
 
 pub rank_most : (second : Second) (tag : ℕ) → rank second tag ≤ 3
 unfolding rank
 rank_most second tag = go (eqb tag 0x87) (eqb tag (tag_of second)) (eqb tag 0x8E)
   where
-    go : (s t u : Bool) → (if s then 1 else if t then 2 else if u then 3 else 0) ≤ 3
+    go : (s t u : Bool) → (if s then 1 else (if t then 2 else (if u then 3 else 0))) ≤ 3
     go true t u = lit≤ tt
     go false true u = lit≤ tt
     go false false true = lit≤ tt
@@ -105,7 +105,7 @@ pub some_byte : (w : Wanted) (tag n : ℕ) → right_size w tag n ≡ true → 1
 unfolding right_size
 some_byte w tag n e = go (eqb tag 0x87) (eqb tag 0x8E) e
   where
-    go : (s t : Bool) → (if s then leb 17 n && eqb ((n - 1) % 16) 0 && leb (n - 1) w.limit else if t then eqb n 8 else eqb n (size_of w.second)) ≡ true → 1 ≤ n
+    go : (s t : Bool) → (if s then leb 17 n && eqb ((n - 1) % 16) 0 && leb (n - 1) w.limit else (if t then eqb n 8 else eqb n (size_of w.second))) ≡ true → 1 ≤ n
     go true t f =
         omega (
           arith,

@@ -1,7 +1,7 @@
 -- Rule 5.5: one object of a field, read at an index.
 use Rattle.std.specs.Prelude.{Bool, ℕ, ◌+◌, leb, length, get_or}
 use Rattle.octets.specs.Bytes.{Bytes}
-use Rattle.octets.specs.Choice.{if◌then◌else◌}
+use Rattle.std.specs.Prelude.{if◌then◌else◌}
 use Rattle.field_ber_length.specs.Length.{read_length, is_shortest}
 use Rattle.field_ber_length.specs.declared.LengthRead.{LengthRead}
 use Rattle.field_ber_length.specs.declared.LengthRead.TheVariants.{Length, BadForm}

@@ -1,7 +1,7 @@
 -- Rules 5.10 to 5.12: the length and the value of each object.
 use Rattle.std.specs.Prelude.{Bool, true, ◌&&◌, ℕ, ◌+◌, ◌-◌, ◌%◌, eqb, leb, get_or}
 use Rattle.octets.specs.Bytes.{Bytes}
-use Rattle.octets.specs.Choice.{if◌then◌else◌}
+use Rattle.std.specs.Prelude.{if◌then◌else◌}
 use Rattle.field_expected.specs.Wanted.{tag87, tag_8e}
 use Rattle.field_expected.specs.declared.Second.{Second}
 use Rattle.field_expected.specs.declared.Second.TheVariants.{Le, Status}
@@ -16,7 +16,7 @@ size_of (Status sw1 sw2) = 2
 unfoldable pub right_size : Wanted → ℕ → ℕ → Bool
 right_size w tag n =
     if eqb tag tag87 then leb 17 n && eqb ((n - 1) % 16) 0 && leb (n - 1) w.limit else
-    if eqb tag tag_8e then eqb n 8 else eqb n (size_of w.second)
+    (if eqb tag tag_8e then eqb n 8 else eqb n (size_of w.second))
 
 -- the second object's value: '00', or the status given
 unfoldable pub right_second : Second → Bytes → ℕ → Bool
@@ -26,4 +26,4 @@ right_second (Status sw1 sw2) xs at = eqb (get_or xs at 0) sw1 && eqb (get_or xs
 -- the first byte of '87' is '01'
 unfoldable pub right_value : Wanted → ℕ → Bytes → ℕ → Bool
 right_value w tag xs at =
-    if eqb tag tag87 then eqb (get_or xs at 0) 1 else if eqb tag tag_8e then true else right_second w.second xs at
+    if eqb tag tag87 then eqb (get_or xs at 0) 1 else (if eqb tag tag_8e then true else right_second w.second xs at)

@@ -10,7 +10,7 @@ use lib.Dec.{eqb}
 use lib.ListN.{length, get_or, length-append, get_or-replicate, length-replicate}
 use lib.Seq.{get_or-append-add, get_or-append_seam}
 use Rattle.octets.specs.Bytes.{Bytes, zeros}
-use Rattle.octets.specs.Choice.{if◌then◌else◌}
+use Rattle.std.specs.Prelude.{if◌then◌else◌}
 use Rattle.field_padding.specs.Padding.{padding, pad, marked, mark_before, unpad}
 use Rattle.field_padding.specs.declared.Unpadded.TheVariants.{Data, BadPadding}
 use Rattle.field_padding.proofs.Lengths.{length_pad}

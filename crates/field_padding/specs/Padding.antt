@@ -1,7 +1,7 @@
 -- SP 800-73-4 Part 2, 4.2.2: the padding of command and response data.
 use Rattle.std.specs.Prelude.{◌≡◌, ◌∷◌, ◌++◌, ℕ, zero, suc, ◌+◌, ◌*◌, ◌-◌, ◌/◌, ◌%◌, ◌<◌, ◌≤◌, min, eqb, length, get_or}
 use Rattle.octets.specs.Bytes.{Bytes, zeros}
-use Rattle.octets.specs.Choice.{if◌then◌else◌}
+use Rattle.std.specs.Prelude.{if◌then◌else◌}
 use Rattle.field_padding.specs.declared.Unpadded.{Unpadded}
 use Rattle.field_padding.specs.declared.Unpadded.TheVariants.{Data, BadPadding}
 

@@ -1,7 +1,7 @@
 -- Rule 5.5: a whole field, read from left to right.
 use Rattle.std.specs.Prelude.{true, false, ℕ, zero, suc, ◌+◌, ◌-◌, eqb, ltb, length, take, drop}
 use Rattle.octets.specs.Bytes.{Bytes}
-use Rattle.octets.specs.Choice.{if◌then◌else◌}
+use Rattle.std.specs.Prelude.{if◌then◌else◌}
 use Rattle.field_expected.specs.Wanted.{tag87, tag_8e, lacks, tag_of, need_of, rank}
 use Rattle.field_object.specs.Object.{breach, read_object}
 use Rattle.field_expected.specs.declared.Wanted.{Wanted}
@@ -22,9 +22,9 @@ unfoldable pub noted : Objects → DataObject → Objects
 noted o d =
     if eqb d.tag tag87 then
     record { ciphertext = d.value + 1; ciphertext_len = d.len - 1; second = o.second; mac_start = o.mac_start; mac = o.mac } else
-    if eqb d.tag tag_8e then
+    (if eqb d.tag tag_8e then
     record { ciphertext = o.ciphertext; ciphertext_len = o.ciphertext_len; second = o.second; mac_start = d.start; mac = d.value } else
-    record { ciphertext = o.ciphertext; ciphertext_len = o.ciphertext_len; second = true; mac_start = o.mac_start; mac = o.mac }
+    record { ciphertext = o.ciphertext; ciphertext_len = o.ciphertext_len; second = true; mac_start = o.mac_start; mac = o.mac })
 
 -- anything but an object that is wanted ends the walk
 unfoldable pub refused : ObjectRead → FieldRead
@@ -35,8 +35,8 @@ refused (Object d) = BadField (breach Tag d.tag d.start)
 unfoldable pub ended : Wanted → Objects → ℕ → ℕ → FieldRead
 ended w o r end =
     if lacks w.«data» (ltb 0 o.ciphertext_len) then Missing tag87 end else
-    if lacks (need_of w.second) o.second then Missing (tag_of w.second) end else
-    if ltb r 3 then Missing tag_8e end else Read o
+    (if lacks (need_of w.second) o.second then Missing (tag_of w.second) end else
+    (if ltb r 3 then Missing tag_8e end else Read o))
 
 -- what an object leads to, by the walk from it on
 unfoldable pub on_object : ObjectRead → (DataObject → FieldRead) → FieldRead

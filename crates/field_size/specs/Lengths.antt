@@ -1,6 +1,6 @@
 -- Rule 1.4: how long a field is, from the length of its data and whether Le is present.
 use Rattle.std.specs.Prelude.{Bool, ℕ, ◌+◌, eqb, length}
-use Rattle.octets.specs.Choice.{if◌then◌else◌}
+use Rattle.std.specs.Prelude.{if◌then◌else◌}
 use Rattle.field_padding.specs.Padding.{padded_length}
 use Rattle.field_ber_length.specs.Length.{length_field}
 

@@ -9,7 +9,7 @@ use lib.Dec.{eqb}
 use lib.ListN.{length, length-append}
 use native.Mathlib.Numerals.{add-one}
 use Rattle.octets.specs.Bytes.{Bytes}
-use Rattle.octets.specs.Choice.{if◌then◌else◌}
+use Rattle.std.specs.Prelude.{if◌then◌else◌}
 use Rattle.field_ber_length.specs.Length.{length_field}
 use Rattle.field_write.specs.Objects.{object, encrypted_data, le_object, status_word, mac_object, command_objects, response_objects, command_field, response_field}
 use Rattle.field_size.specs.Lengths.{ciphertext_length, encrypted_data_length, command_length, response_length}
@@ -48,7 +48,7 @@ pub length-encrypted_data : (c : Bytes) → length (encrypted_data c) ≡ encryp
 unfolding encrypted_data encrypted_data_length object
 length-encrypted_data c = go (eqb (length c) 0)
   where
-    go : (t : Bool) → length (if t then [] else 0x87 ∷ length_field (length (0x01 ∷ c)) ++ 0x01 ∷ c)
+    go : (t : Bool) → length (if t then [] else (0x87 ∷ length_field (length (0x01 ∷ c)) ++ 0x01 ∷ c))
         ≡ (if t then 0 else 2 + length (length_field (length c + 1)) + length c)
     go true = refl
     go false =

@@ -1,7 +1,7 @@
 -- SP 800-73-4 Part 2, 4.2: the data objects of a field, in the side's order.
 use Rattle.std.specs.Prelude.{Bool, [], ◌∷◌, ◌++◌, ℕ, eqb, length}
 use Rattle.octets.specs.Bytes.{Bytes}
-use Rattle.octets.specs.Choice.{if◌then◌else◌}
+use Rattle.std.specs.Prelude.{if◌then◌else◌}
 use Rattle.field_ber_length.specs.Length.{length_field}
 use Rattle.field_expected.specs.Wanted.{tag87, tag97, tag99, tag_8e}
 

@@ -1,8 +1,8 @@
--- Document 01, "The numbered answers": a call's answer, and the session that it leaves, for every type of session and
+-- Rules 2.2 to 2.4: a call's answer, and the session that it leaves, for every type of session and
 -- its closing.
 use Rattle.std.specs.Prelude.{Bool, ◌||◌, eqb}
 use Rattle.octets.specs.Bytes.{Bytes}
-use Rattle.octets.specs.Choice.{if◌then◌else◌}
+use Rattle.std.specs.Prelude.{if◌then◌else◌}
 use Rattle.octets.specs.Write.{over}
 use Rattle.refusal.specs.Refusal.{number}
 use Rattle.refusal.specs.declared.Refusal.{Refusal}

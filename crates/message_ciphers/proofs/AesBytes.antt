@@ -9,7 +9,7 @@ use native.Mathlib.Omega.{arith}
 use lib.Dec.{eqb}
 use lib.ListN.{length, take}
 use Rattle.octets.specs.Bytes.{Bytes, IsBytes}
-use Rattle.octets.specs.Choice.{if◌then◌else◌}
+use Rattle.std.specs.Prelude.{if◌then◌else◌}
 use Rattle.octets.proofs.ByteStrings.{bytes_nil, bytes_taken}
 use Rattle.field_padding.specs.Padding.{pad, unpad}
 use Rattle.field_padding.specs.declared.Unpadded.{Unpadded}

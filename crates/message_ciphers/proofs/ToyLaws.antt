@@ -9,7 +9,7 @@ use borrow.Author.Tests.{eqb-true, eqb-false, ne_eqb}
 use lib.Dec.{eqb}
 use lib.ListN.{length, length-map}
 use Rattle.octets.specs.Bytes.{Bytes, ◌⊕◌}
-use Rattle.octets.specs.Choice.{if◌then◌else◌}
+use Rattle.std.specs.Prelude.{if◌then◌else◌}
 use Rattle.octets.proofs.Xor.{xor_undo}
 use Rattle.field_padding.specs.Padding.{pad, padded_length}
 use Rattle.field_padding.proofs.Lengths.{length_pad}

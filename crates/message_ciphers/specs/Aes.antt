@@ -2,7 +2,7 @@
 use Rattle.std.specs.Prelude.{[], eqb, length, take}
 use Rattle.std.proofs.Math.Option.{Option, none, some}
 use Rattle.octets.specs.Bytes.{Bytes}
-use Rattle.octets.specs.Choice.{if◌then◌else◌}
+use Rattle.std.specs.Prelude.{if◌then◌else◌}
 use Rattle.field_padding.specs.Padding.{pad, unpad}
 use Rattle.field_padding.specs.declared.Unpadded.{Unpadded}
 use Rattle.field_padding.specs.declared.Unpadded.TheVariants.{Data, BadPadding}

@@ -5,7 +5,7 @@ use mathlib.Core.List.{[], ◌∷◌, ◌++◌, foldr, map}
 use Rattle.std.proofs.Math.Option.{Option, some}
 use Rattle.std.specs.Prelude.{ℕ, ◌+◌, ◌*◌, ◌%◌, eqb, length}
 use Rattle.octets.specs.Bytes.{Bytes, ◌⊕◌, zeros}
-use Rattle.octets.specs.Choice.{if◌then◌else◌}
+use Rattle.std.specs.Prelude.{if◌then◌else◌}
 use Rattle.field_padding.specs.Padding.{pad, unpad}
 use Rattle.message_ciphers.specs.Ciphers.{Ciphers}
 use Rattle.message_ciphers.specs.Aes.{data_in}

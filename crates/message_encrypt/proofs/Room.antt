@@ -6,7 +6,7 @@ use native.Mathlib.Omega.{arith}
 use lib.Dec.{eqb}
 use lib.ListN.{length}
 use Rattle.octets.specs.Bytes.{Bytes}
-use Rattle.octets.specs.Choice.{if◌then◌else◌}
+use Rattle.std.specs.Prelude.{if◌then◌else◌}
 use Rattle.octets.specs.Write.{Wrote}
 use Rattle.field_padding.specs.Padding.{padded_length}
 use Rattle.field_write.specs.Objects.{encrypted_data, command_objects, response_objects}

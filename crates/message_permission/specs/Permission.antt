@@ -1,6 +1,6 @@
 -- Rules 5.8 and 5.9: which commands and statuses are permitted, and what their fields must hold.
 use Rattle.std.specs.Prelude.{Bool, ◌&&◌, ◌||◌, not, ℕ, eqb, ltb}
-use Rattle.octets.specs.Choice.{if◌then◌else◌}
+use Rattle.std.specs.Prelude.{if◌then◌else◌}
 use Rattle.field_expected.specs.declared.Need.{Need}
 use Rattle.field_expected.specs.declared.Need.TheVariants.{Must, May, MustNot}
 use Rattle.field_expected.specs.declared.Second.TheVariants.{Le, Status}
@@ -26,7 +26,7 @@ ins_permitted ins = eqb ins verify || eqb ins change_reference_data || eqb ins g
 
 -- 20 and 24 without Le, CB with Le, 87 with or without
 unfoldable pub le_need : ℕ → Need
-le_need ins = if eqb ins get_data then Must else if eqb ins general_authenticate then May else MustNot
+le_need ins = if eqb ins get_data then Must else (if eqb ins general_authenticate then May else MustNot)
 
 -- only 20 may lack data
 unfoldable pub data_need : ℕ → Need

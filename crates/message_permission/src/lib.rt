@@ -1,4 +1,4 @@
-// Which INS and statuses are permitted, what Le and data each INS takes, and what a field is read for (document 01, "Objects, encryption and MAC").
+// Which INS and statuses are permitted, what Le and data each INS takes, and what a field is read for (rules 5.8 and 5.9).
 #![tactic(auto)]
 
 ghost use Rattle.std.specs.Prelude.{◌≡◌, ◌<◌};

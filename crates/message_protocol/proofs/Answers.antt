@@ -8,7 +8,7 @@ use mathlib.Core.Option.{none}
 use Prim.Native.Nat.{ℕ}
 use lib.ListN.{replicate}
 use Rattle.octets.specs.Bytes.{Bytes, zeros}
-use Rattle.octets.specs.Choice.{if◌then◌else◌}
+use Rattle.std.specs.Prelude.{if◌then◌else◌}
 use Rattle.message_mac.specs.Same.{same}
 use Rattle.field_padding.specs.Padding.{padding, pad, padded_length, marked, mark_before, unpad}
 use Rattle.field_ber_length.specs.Length.{length_field, read_length, is_shortest}

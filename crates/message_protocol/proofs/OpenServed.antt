@@ -61,6 +61,7 @@ hit n (m ∷ ns) = eqb n m || hit n ns
 
 pub met : (n : ℕ) (ns : List ℕ) → Memᴰ n ns → hit n ns ≡ true
 unfolding hit
+met n [] x = elim x [ ]
 met n (m ∷ ns) (Memᴰ.head e) = rw (eq-eqb n m e)
 met n (m ∷ ns) (Memᴰ.tail d) = orb (eqb n m) (met n ns d)
   where

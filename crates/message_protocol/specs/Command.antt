@@ -1,4 +1,4 @@
--- Document 01: the host wraps a command, and the card unwraps it.
+-- Rules 2.5, 3.3, 6.1 and 6.3: the host wraps a command, and the card unwraps it.
 use Rattle.std.specs.Prelude.{Bool, ℕ, ◌+◌, leb, ltb, length, take}
 use Rattle.octets.specs.Bytes.{Bytes}
 use Rattle.field_read.specs.Field.{read_field, covered_of}

@@ -1,6 +1,5 @@
--- Demand 1: "Any bytes, any session and any turn get an answer from the numbered table in document 01. A refusal changes no byte
--- of a lent output. It keeps the session as it was, save that a wrong MAC or wrong padding closes it and zeroes its keys, count
--- and chaining values." Assumes nothing.
+-- Demand 1 (rule 10.1): every refusal has a number of its call's order, no byte of the caller's buffer changes, and the session stays, but
+-- is closed, field by field, at 9 and 10.
 use Rattle.std.specs.Prelude.{◌≡◌, ◌⊎◌, ℕ}
 use mathlib.Core.List.{List, [], ◌∷◌, Memᴰ}
 use Rattle.octets.specs.Bytes.{Bytes, zeros}
@@ -12,7 +11,7 @@ use Rattle.message_ciphers.specs.Ciphers.{Ciphers}
 use Rattle.message_answer.specs.Answer.{refused, buffer}
 use Rattle.message_protocol.specs.Transcript.{Call, wrap_command, unwrap_command, wrap_response, unwrap_response, close, Gives, does}
 
--- the refusals of each call; that they come in document 01's order is in the calls' definitions, and computed in proofs/Answers
+-- the refusals of each call; that they come in the order of rule 2.5 is in the calls' definitions, and computed in proofs/Answers
 abbrev pub order : Call → List ℕ
 order (wrap_command side m room) = 1 ∷ 2 ∷ 3 ∷ 4 ∷ 5 ∷ 6 ∷ []
 order (unwrap_command side ins p1 p2 field room) = 1 ∷ 2 ∷ 3 ∷ 4 ∷ 5 ∷ 7 ∷ 8 ∷ 6 ∷ 9 ∷ 10 ∷ []

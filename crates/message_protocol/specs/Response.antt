@@ -1,4 +1,4 @@
--- Document 01: the card wraps a response, and the host unwraps it.
+-- Rules 2.5, 3.3, 6.2 and 6.3: the card wraps a response, and the host unwraps it.
 use Rattle.std.specs.Prelude.{ℕ, leb, ltb, length, take}
 use Rattle.octets.specs.Bytes.{Bytes}
 use Rattle.field_read.specs.Field.{read_field, covered_of}

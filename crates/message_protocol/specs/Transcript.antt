@@ -1,4 +1,4 @@
--- Document 01, "The list that demand 3 speaks of": the calls, and the transcript that is kept of them ("a book" there).
+-- Rules 9.1 to 9.4: the calls, and the transcript that is kept of them (also called a "book").
 -- Four logs, made from the calls' arguments and answers and the keys as given at opening, never from a session.
 -- Sessions come in only where the calls as defined are run, in the last part.
 use Rattle.std.specs.Prelude.{List, [], ◌∷◌, map, ℕ, length, get_or}

@@ -15,7 +15,7 @@ use lib.Dec.{ltb}
 use lib.ListN.{length, replicate, get_or, take}
 use Rattle.octets.proofs.Tests.{both}
 use Rattle.octets.specs.Bytes.{Bytes, IsBytes, zeros}
-use Rattle.octets.specs.Choice.{if◌then◌else◌}
+use Rattle.std.specs.Prelude.{if◌then◌else◌}
 use Rattle.message_mac.specs.Same.{same}
 use Rattle.message_mac.proofs.SameBytes.{same_eq, same_self}
 use Rattle.field_padding.specs.Padding.{padding, pad, padded_length, marked, mark_before, unpad}

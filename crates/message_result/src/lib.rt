@@ -1,4 +1,4 @@
-// What the calls that wrap and unwrap give back: an answer, and the next session (document 01, "The numbered answers").
+// What the calls that wrap and unwrap give back: an answer, and the next session (rules 2.1 to 2.3).
 #![tactic(auto)]
 
 ghost use Rattle.std.specs.Prelude.{◌≡◌};

@@ -1,4 +1,4 @@
-// The tests of wrapping a command, in document 01's order.
+// The tests of wrapping a command, in the order of rule 2.5.
 ghost use Rattle.std.specs.Prelude.{true, ◌≡◌};
 ghost use Rattle.session_rules.specs.Valid.{valid};
 ghost use Rattle.message_result.specs.Results.{checked};

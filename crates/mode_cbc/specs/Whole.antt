@@ -1,7 +1,7 @@
 -- SP 800-38A, 5.2: the data of CBC is a sequence of complete blocks. Anything else is refused, and stays.
 use Rattle.std.specs.Prelude.{Bool, ◌%◌, eqb, length}
 use Rattle.octets.specs.Bytes.{Bytes}
-use Rattle.octets.specs.Choice.{if◌then◌else◌}
+use Rattle.std.specs.Prelude.{if◌then◌else◌}
 use Rattle.mode_cbc.specs.declared.Outcome.{Outcome}
 use Rattle.mode_cbc.specs.declared.Outcome.TheVariants.{Done, PartialBlock}
 

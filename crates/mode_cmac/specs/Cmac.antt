@@ -2,7 +2,7 @@
 -- A message is a string of whole bytes, and the MAC is all 16 bytes (Tlen = 128).
 use Rattle.std.specs.Prelude.{◌∷◌, ◌++◌, ℕ, zero, suc, ◌+◌, ◌*◌, ◌-◌, ◌/◌, eqb, length, take, drop}
 use Rattle.octets.specs.Bytes.{Bytes, zeros, ◌xor◌}
-use Rattle.octets.specs.Choice.{if◌then◌else◌}
+use Rattle.std.specs.Prelude.{if◌then◌else◌}
 use Rattle.mode_cmac.specs.Subkeys.{Cipher, subkey1, subkey2}
 
 -- 6.2, step 2: n, 1 for the empty message, else ⌈Mlen / b⌉

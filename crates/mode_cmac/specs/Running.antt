@@ -2,7 +2,7 @@
 -- proofs/Theorems.antt.
 use Rattle.std.specs.Prelude.{◌≡◌, [], ◌∷◌, ℕ, ◌+◌, ◌<◌, ◌≤◌, leb, length, drop, get_or, set}
 use Rattle.octets.specs.Bytes.{Bytes, zeros, ◌⊕◌, ◌xor◌}
-use Rattle.octets.specs.Choice.{if◌then◌else◌}
+use Rattle.std.specs.Prelude.{if◌then◌else◌}
 use Rattle.mode_cmac.specs.declared.Cmac.{Cmac}
 use Rattle.mode_cmac.specs.Subkeys.{Cipher, subkey1, subkey2}
 

@@ -1,7 +1,7 @@
 -- The calls of c/include/primitives.h: AES, CBC and CMAC under a key of 16 or 32 bytes.
 use Rattle.std.specs.Prelude.{Bool, ◌&&◌, ◌++◌, ℕ, eqb, length}
 use Rattle.octets.specs.Bytes.{Bytes, zeros}
-use Rattle.octets.specs.Choice.{if◌then◌else◌}
+use Rattle.std.specs.Prelude.{if◌then◌else◌}
 use Rattle.octets.specs.Write.{over}
 use Rattle.aes.specs.Aes.{aes, inv_aes}
 use Rattle.aes_key_expansion.specs.declared.KeySize.{KeySize}
@@ -14,7 +14,7 @@ use Rattle.primitives.specs.declared.Key.TheVariants.{Of, BadLength}
 
 -- the size of a key of that length, if there is one
 unfoldable pub key_size : ℕ → Key
-key_size n = if eqb n 16 then Of Aes128 else if eqb n 32 then Of Aes256 else BadLength
+key_size n = if eqb n 16 then Of Aes128 else (if eqb n 32 then Of Aes256 else BadLength)
 
 -- as long as a block
 abbrev pub block_long : Bytes → Bool

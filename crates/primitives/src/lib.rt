@@ -49,8 +49,7 @@ fn expanded(size: KeySize, key: &[u8]) -> [[u8; 4]; 60]
     aes_key_expansion::key_expansion(size, bytes)
 }
 
-#[unsafe(no_mangle)]
-pub extern "C" fn pivsm_aes_encrypt(key: &[u8], block: &mut [u8]) -> u32
+pub fn pivsm_aes_encrypt(key: &[u8], block: &mut [u8]) -> u32
     ensures answer { result ≡ aes_answer key.now block.old }
     ensures buffer { block.new ≡ aes_encrypt_buffer key.now block.old }
 {
@@ -66,8 +65,7 @@ pub extern "C" fn pivsm_aes_encrypt(key: &[u8], block: &mut [u8]) -> u32
     DONE
 }
 
-#[unsafe(no_mangle)]
-pub extern "C" fn pivsm_aes_decrypt(key: &[u8], block: &mut [u8]) -> u32
+pub fn pivsm_aes_decrypt(key: &[u8], block: &mut [u8]) -> u32
     ensures answer { result ≡ aes_answer key.now block.old }
     ensures buffer { block.new ≡ aes_decrypt_buffer key.now block.old }
 {
@@ -83,8 +81,7 @@ pub extern "C" fn pivsm_aes_decrypt(key: &[u8], block: &mut [u8]) -> u32
     DONE
 }
 
-#[unsafe(no_mangle)]
-pub extern "C" fn pivsm_cbc_encrypt(key: &[u8], iv: &[u8], data: &mut [u8]) -> u32
+pub fn pivsm_cbc_encrypt(key: &[u8], iv: &[u8], data: &mut [u8]) -> u32
     ensures answer { result ≡ cbc_answer key.now iv.now «data».old }
     ensures buffer { «data».new ≡ cbc_encrypt_buffer key.now iv.now «data».old }
 {
@@ -101,8 +98,7 @@ pub extern "C" fn pivsm_cbc_encrypt(key: &[u8], iv: &[u8], data: &mut [u8]) -> u
     }
 }
 
-#[unsafe(no_mangle)]
-pub extern "C" fn pivsm_cbc_decrypt(key: &[u8], iv: &[u8], data: &mut [u8]) -> u32
+pub fn pivsm_cbc_decrypt(key: &[u8], iv: &[u8], data: &mut [u8]) -> u32
     ensures answer { result ≡ cbc_answer key.now iv.now «data».old }
     ensures buffer { «data».new ≡ cbc_decrypt_buffer key.now iv.now «data».old }
 {
@@ -120,8 +116,7 @@ pub extern "C" fn pivsm_cbc_decrypt(key: &[u8], iv: &[u8], data: &mut [u8]) -> u
 }
 
 // The MAC of head followed by rest.
-#[unsafe(no_mangle)]
-pub extern "C" fn pivsm_cmac(key: &[u8], head: &[u8], rest: &[u8], mac: &mut [u8]) -> u32
+pub fn pivsm_cmac(key: &[u8], head: &[u8], rest: &[u8], mac: &mut [u8]) -> u32
     ensures answer { result ≡ cmac_answer key.now mac.old }
     ensures buffer { mac.new ≡ cmac_buffer key.now head.now rest.now mac.old }
 {

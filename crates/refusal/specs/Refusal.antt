@@ -1,4 +1,4 @@
--- Document 01, "The numbered answers": the number of each refusal, and what it gives beside it.
+-- Rules 2.1 and 2.2: the number of each refusal, and what it gives beside it.
 use Rattle.std.specs.Prelude.{ℕ, ◌+◌, ◌*◌}
 use Rattle.refusal.specs.declared.Refusal.{Refusal}
 use Rattle.refusal.specs.declared.Refusal.TheVariants.{SessionClosed, OutOfTurn, NotPermitted, TooLong, CommandLimit, BufferTooSmall, Malformed, MissingObject, BadMac, BadPadding, UnknownSuite, BadKeyLength, Unprotected, BrokenChain, FragmentTooLong, BadSession}

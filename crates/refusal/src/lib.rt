@@ -1,4 +1,4 @@
-// The refusals of document 01's table "The numbered answers", one for each number.
+// The refusals of rule 2.1, one for each number.
 #![tactic(auto)]
 
 ghost use Rattle.std.specs.Prelude.{◌≡◌};

@@ -1,6 +1,6 @@
 -- Rule 2.5: opening, one call for each side, 11 before 12.
 use Rattle.std.specs.Prelude.{ℕ}
-use Rattle.octets.specs.Choice.{if◌then◌else◌}
+use Rattle.std.specs.Prelude.{if◌then◌else◌}
 use Rattle.refusal.specs.declared.Refusal.{Refusal}
 use Rattle.refusal.specs.declared.Refusal.TheVariants.{UnknownSuite, BadKeyLength}
 use Rattle.session_suite.specs.Suites.{key_length, suite_of}

@@ -10,7 +10,7 @@ use lib.Dec.{eqb}
 use lib.ListN.{length, get_or, drop, length-drop, take-append-drop}
 use lib.Seq.{length-take-le, drop-cons, drop-drop, get_or-take, get_or-drop, take_all}
 use Rattle.octets.specs.Bytes.{Bytes, IsBytes}
-use Rattle.octets.specs.Choice.{if◌then◌else◌}
+use Rattle.std.specs.Prelude.{if◌then◌else◌}
 use Rattle.octets.proofs.ByteStrings.{byte_at}
 use Rattle.octets_numbers.specs.BigEndian.{big_endian, number_in}
 use Rattle.octets_numbers.proofs.BigEndian.{big_endian_number}
@@ -78,7 +78,7 @@ suite_number n suite = at_2 (eqb n 2) refl
     at_7 true e k = let s : Cs7 ≡ suite = cc in sym (ap number s) ∙ sym (eqb-true n 7 e)
     at_7 false e k = let z : ◌≡◌ {A = ℕ} 0 1 = cc in let o : ⊥ = omega arith in absurd o
 
-    at_2 : (t : Bool) → eqb n 2 ≡ t → (if t then Known Cs2 else if eqb n 7 then Known Cs7 else Unknown) ≡ Known suite
+    at_2 : (t : Bool) → eqb n 2 ≡ t → (if t then Known Cs2 else (if eqb n 7 then Known Cs7 else Unknown)) ≡ Known suite
         → number suite ≡ n
     at_2 true e k = let s : Cs2 ≡ suite = cc in sym (ap number s) ∙ sym (eqb-true n 2 e)
     at_2 false e k = at_7 (eqb n 7) refl k

@@ -1,7 +1,7 @@
 -- Rule 8.1: a session as 138 bytes, and back. Numbers are big-endian.
 use Rattle.std.specs.Prelude.{Bool, ◌&&◌, [], ◌∷◌, ◌++◌, ℕ, ◌-◌, eqb, leb, length, get_or, take, drop}
 use Rattle.octets.specs.Bytes.{Bytes}
-use Rattle.octets.specs.Choice.{if◌then◌else◌}
+use Rattle.std.specs.Prelude.{if◌then◌else◌}
 use Rattle.octets_numbers.specs.BigEndian.{big_endian, number_in}
 use Rattle.refusal.specs.declared.Refusal.TheVariants.{BadSession}
 use Rattle.session_suite.specs.Suites.{number, suite_of}
@@ -64,7 +64,7 @@ abbrev pub side_from : ℕ → Side
 side_from n = if eqb n 0 then Host else Card
 
 abbrev pub phase_from : ℕ → Phase
-phase_from n = if eqb n 0 then Ready else if eqb n 1 then Pending else Closed
+phase_from n = if eqb n 0 then Ready else (if eqb n 1 then Pending else Closed)
 
 abbrev pub count_from : Bytes → ℕ
 count_from b = number_in (part b 6 4)

@@ -1,7 +1,7 @@
 -- Rule 2.5: saving, with its refusals.
 use Rattle.std.specs.Prelude.{ℕ, leb}
 use Rattle.octets.specs.Bytes.{Bytes}
-use Rattle.octets.specs.Choice.{if◌then◌else◌}
+use Rattle.std.specs.Prelude.{if◌then◌else◌}
 use Rattle.octets.specs.Write.{over}
 use Rattle.refusal.specs.declared.Refusal.TheVariants.{SessionClosed, BufferTooSmall}
 use Rattle.session.specs.declared.Session.{Session}

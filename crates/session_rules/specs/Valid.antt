@@ -1,6 +1,6 @@
 -- Rules 8.2 to 8.5: the rules that a session value keeps. One that breaks them counts as closed.
 use Rattle.std.specs.Prelude.{Bool, true, false, ◌&&◌, eqb, leb}
-use Rattle.octets.specs.Choice.{if◌then◌else◌}
+use Rattle.std.specs.Prelude.{if◌then◌else◌}
 use Rattle.session.specs.declared.Phase.{Phase}
 use Rattle.session.specs.declared.Phase.TheVariants.{Ready, Pending, Closed}
 use Rattle.session.specs.declared.Session.{Session}

@@ -1,6 +1,6 @@
 -- SP 800-73-4 Part 2, Table 14: the cipher suites.
 use Rattle.std.specs.Prelude.{ℕ, eqb}
-use Rattle.octets.specs.Choice.{if◌then◌else◌}
+use Rattle.std.specs.Prelude.{if◌then◌else◌}
 use Rattle.session_suite.specs.declared.Suite.{Suite}
 use Rattle.session_suite.specs.declared.Suite.TheVariants.{Cs2, Cs7}
 use Rattle.session_suite.specs.declared.SuiteNumber.{SuiteNumber}
@@ -16,4 +16,4 @@ number Cs2 = 2
 number Cs7 = 7
 
 abbrev pub suite_of : ℕ → SuiteNumber
-suite_of n = if eqb n 2 then Known Cs2 else if eqb n 7 then Known Cs7 else Unknown
+suite_of n = if eqb n 2 then Known Cs2 else (if eqb n 7 then Known Cs7 else Unknown)

@@ -7,21 +7,22 @@ mod row;
 
 use field_expected::{Need, Second, Wanted};
 use field_read::read_field;
+use std::io;
 
-fn main() {
-    row::head();
-    command_field();
-    response_field();
-    made::lacking();
-    made::tags();
-    made::order();
-    made::length_forms();
-    made::length_sizes();
-    made::whole_sizes();
-    made::length_edges();
-    made::responses();
-    made::response_length_sizes();
-    made::other_commands();
+fn main(rt: HostRuntime) -> io::Result<()> {
+    row::head(&rt)?;
+    command_field(&rt)?;
+    response_field(&rt)?;
+    made::lacking(&rt)?;
+    made::tags(&rt)?;
+    made::order(&rt)?;
+    made::length_forms(&rt)?;
+    made::length_sizes(&rt)?;
+    made::whole_sizes(&rt)?;
+    made::length_edges(&rt)?;
+    made::responses(&rt)?;
+    made::response_length_sizes(&rt)?;
+    made::other_commands(&rt)
 }
 
 // What GET DATA must have.
@@ -43,17 +44,17 @@ fn response() -> Wanted {
 }
 
 // 5 bytes of data are 16 of encrypted data: '87' at 0, '97' at 19, '8E' at 22.
-fn command_field() {
+fn command_field(rt: &impl Print) -> io::Result<()> {
     let mut field = [0; 32];
     put_command(&mut field);
-    damaged(b"command  ", get_data(), &mut field);
+    damaged(rt, b"command  ", get_data(), &mut field)
 }
 
 // 112 bytes of data are 128 of encrypted data, so that '87' has a length of two bytes; '99' at 132, '8E' at 136.
-fn response_field() {
+fn response_field(rt: &impl Print) -> io::Result<()> {
     let mut field = [0; 146];
     put_response(&mut field);
-    damaged(b"response ", response(), &mut field);
+    damaged(rt, b"response ", response(), &mut field)
 }
 
 fn put_command(out: &mut [u8]) {
@@ -74,33 +75,41 @@ fn put_response(out: &mut [u8]) {
     field_write::put_mac(out, next, [b'M'; 8]);
 }
 
-fn damaged(name: &[u8], wanted: Wanted, field: &mut [u8]) {
-    row::begin(name, b"undamaged               ");
-    row::end(read_field(wanted, field));
-    changed(name, wanted, field, 0x01);
-    changed(name, wanted, field, 0x80);
-    cut_off(name, wanted, field);
+fn damaged(rt: &impl Print, name: &[u8], wanted: Wanted, field: &mut [u8]) -> io::Result<()> {
+    row::begin(rt, name, b"undamaged               ")?;
+    row::end(rt, read_field(wanted, field))?;
+    changed(rt, name, wanted, field, 0x01)?;
+    changed(rt, name, wanted, field, 0x80)?;
+    cut_off(rt, name, wanted, field)
 }
 
 // The field with each byte changed in turn, by exclusive or.
-fn changed(name: &[u8], wanted: Wanted, field: &mut [u8], change: u8) {
+fn changed(
+    rt: &impl Print,
+    name: &[u8],
+    wanted: Wanted,
+    field: &mut [u8],
+    change: u8,
+) -> io::Result<()> {
     let mut at: usize = 0;
     while at < field.len() {
         let byte = field[at];
         field[at] = byte ^ change;
-        row::begin_changed(name, at, change);
-        row::end(read_field(wanted, field));
+        row::begin_changed(rt, name, at, change)?;
+        row::end(rt, read_field(wanted, field))?;
         field[at] = byte;
         at += 1;
     }
+    Ok(())
 }
 
 // The field's first bytes, from none to all but one.
-fn cut_off(name: &[u8], wanted: Wanted, field: &[u8]) {
+fn cut_off(rt: &impl Print, name: &[u8], wanted: Wanted, field: &[u8]) -> io::Result<()> {
     let mut n: usize = 0;
     while n < field.len() {
-        row::begin_cut_off(name, n);
-        row::end(read_field(wanted, &field[..n]));
+        row::begin_cut_off(rt, name, n)?;
+        row::end(rt, read_field(wanted, &field[..n]))?;
         n += 1;
     }
+    Ok(())
 }

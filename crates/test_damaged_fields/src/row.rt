@@ -2,83 +2,85 @@
 // field's objects at 50.
 use field_object::{Breach, Rule};
 use field_read::{FieldRead, Objects};
+use std::io;
 
-pub fn head() {
+pub fn head(rt: &impl Print) -> io::Result<()> {
     test_print::text(
+        rt,
         b"field    damage                  no  rule         tag  offset, or the objects read\n",
-    );
+    )
 }
 
 // 9 and 24 bytes of text.
-pub fn begin(name: &[u8], damage: &[u8]) {
-    test_print::text(name);
-    test_print::text(damage);
+pub fn begin(rt: &impl Print, name: &[u8], damage: &[u8]) -> io::Result<()> {
+    test_print::text(rt, name)?;
+    test_print::text(rt, damage)
 }
 
-pub fn begin_changed(name: &[u8], at: usize, change: u8) {
-    test_print::text(name);
-    test_print::text(b"byte ");
-    decimal(at);
-    test_print::text(b" xor ");
-    test_print::byte(change);
-    test_print::text(b"         ");
+pub fn begin_changed(rt: &impl Print, name: &[u8], at: usize, change: u8) -> io::Result<()> {
+    test_print::text(rt, name)?;
+    test_print::text(rt, b"byte ")?;
+    decimal(rt, at)?;
+    test_print::text(rt, b" xor ")?;
+    test_print::byte(rt, change)?;
+    test_print::text(rt, b"         ")
 }
 
-pub fn begin_cut_off(name: &[u8], n: usize) {
-    test_print::text(name);
-    test_print::text(b"first ");
-    decimal(n);
-    test_print::text(b" bytes         ");
+pub fn begin_cut_off(rt: &impl Print, name: &[u8], n: usize) -> io::Result<()> {
+    test_print::text(rt, name)?;
+    test_print::text(rt, b"first ")?;
+    decimal(rt, n)?;
+    test_print::text(rt, b" bytes         ")
 }
 
-pub fn end(read: FieldRead) {
+pub fn end(rt: &impl Print, read: FieldRead) -> io::Result<()> {
     match read {
-        FieldRead::Read(objects) => accepted(objects),
-        FieldRead::Malformed(breach) => malformed(breach),
-        FieldRead::Missing(tag, end) => place(b" 8  missing      ", tag, end),
+        FieldRead::Read(objects) => accepted(rt, objects),
+        FieldRead::Malformed(breach) => malformed(rt, breach),
+        FieldRead::Missing(tag, end) => place(rt, b" 8  missing      ", tag, end),
     }
 }
 
 // Where the encrypted data stands and its length, whether the second object is there, where '8E' starts and where its value does.
-fn accepted(objects: Objects) {
-    test_print::text(b" 0  accepted     data ");
-    decimal(objects.ciphertext);
-    test_print::text(b" + ");
-    decimal(objects.ciphertext_len);
+fn accepted(rt: &impl Print, objects: Objects) -> io::Result<()> {
+    test_print::text(rt, b" 0  accepted     data ")?;
+    decimal(rt, objects.ciphertext)?;
+    test_print::text(rt, b" + ")?;
+    decimal(rt, objects.ciphertext_len)?;
     if objects.second {
-        test_print::text(b"  second yes  8E ");
+        test_print::text(rt, b"  second yes  8E ")?;
     } else {
-        test_print::text(b"  second no   8E ");
+        test_print::text(rt, b"  second no   8E ")?;
     }
-    decimal(objects.mac_start);
-    test_print::text(b"  mac ");
-    decimal(objects.mac);
-    test_print::newline();
+    decimal(rt, objects.mac_start)?;
+    test_print::text(rt, b"  mac ")?;
+    decimal(rt, objects.mac)?;
+    test_print::newline(rt)
 }
 
-fn malformed(breach: Breach) {
+fn malformed(rt: &impl Print, breach: Breach) -> io::Result<()> {
     let rule = breach.rule;
     match rule {
-        Rule::Tag => place(b" 7  tag          ", breach.tag, breach.offset),
-        Rule::LengthForm => place(b" 7  length form  ", breach.tag, breach.offset),
-        Rule::LengthSize => place(b" 7  length size  ", breach.tag, breach.offset),
-        Rule::BytesLeft => place(b" 7  bytes left   ", breach.tag, breach.offset),
-        Rule::Value => place(b" 7  value        ", breach.tag, breach.offset),
+        Rule::Tag => place(rt, b" 7  tag          ", breach.tag, breach.offset),
+        Rule::LengthForm => place(rt, b" 7  length form  ", breach.tag, breach.offset),
+        Rule::LengthSize => place(rt, b" 7  length size  ", breach.tag, breach.offset),
+        Rule::BytesLeft => place(rt, b" 7  bytes left   ", breach.tag, breach.offset),
+        Rule::Value => place(rt, b" 7  value        ", breach.tag, breach.offset),
     }
 }
 
-fn place(answer: &[u8], tag: u8, offset: usize) {
-    test_print::text(answer);
-    test_print::byte(tag);
-    test_print::text(b"      ");
-    decimal(offset);
-    test_print::newline();
+fn place(rt: &impl Print, answer: &[u8], tag: u8, offset: usize) -> io::Result<()> {
+    test_print::text(rt, answer)?;
+    test_print::byte(rt, tag)?;
+    test_print::text(rt, b"      ")?;
+    decimal(rt, offset)?;
+    test_print::newline(rt)
 }
 
 // Three places wide: the longest field here has 274 bytes.
-fn decimal(value: usize) {
+fn decimal(rt: &impl Print, value: usize) -> io::Result<()> {
     if value < 100 {
-        test_print::text(b" ");
+        test_print::text(rt, b" ")?;
     }
-    test_print::number(value);
+    test_print::number(rt, value)
 }

@@ -7,6 +7,7 @@
 ghost use Rattle.std.specs.Prelude.{◌≤◌, ◌<◌};
 
 use aes_key_expansion::KeySize;
+use std::io;
 
 type State = [[u8; 4]; 4];
 
@@ -27,16 +28,16 @@ const INPUT_B: [u8; 16] = *b"\x32\x43\xf6\xa8\x88\x5a\x30\x8d\x31\x31\x98\xa2\xe
 
 const INPUT_C: [u8; 16] = *b"\x00\x11\x22\x33\x44\x55\x66\x77\x88\x99\xaa\xbb\xcc\xdd\xee\xff";
 
-fn main() {
+fn main(rt: HostRuntime) -> io::Result<()> {
     let table = aes_sbox::sbox();
-    report(b"SBOX", sbox_difference(&table));
+    report(&rt, b"SBOX", sbox_difference(&table))?;
     let inverse = aes_sbox::inv_sbox();
-    report(b"INV_SBOX", inv_sbox_difference(&inverse));
-    appendix_a1();
-    appendix_a3();
-    appendix_b();
-    appendix_c1();
-    appendix_c3();
+    report(&rt, b"INV_SBOX", inv_sbox_difference(&inverse))?;
+    appendix_a1(&rt)?;
+    appendix_a3(&rt)?;
+    appendix_b(&rt)?;
+    appendix_c1(&rt)?;
+    appendix_c3(&rt)
 }
 
 // The first byte at which the table and the rule part, or 256.
@@ -69,182 +70,253 @@ fn index(value: u8) -> usize
     value as usize
 }
 
-fn report(table: &[u8], difference: usize) {
-    test_print::text(table);
+fn report(rt: &impl Print, table: &[u8], difference: usize) -> io::Result<()> {
+    test_print::text(rt, table)?;
     if difference == 256 {
-        test_print::text(b" 256 entries agree with the rule\n");
+        test_print::text(rt, b" 256 entries agree with the rule\n")?;
     } else {
-        test_print::text(b" differs from the rule at byte ");
-        test_print::number(difference);
-        test_print::newline();
+        test_print::text(rt, b" differs from the rule at byte ")?;
+        test_print::number(rt, difference)?;
+        test_print::newline(rt)?;
     }
+    Ok(())
 }
 
-fn appendix_a1() {
+fn appendix_a1(rt: &impl Print) -> io::Result<()> {
     let w = aes_key_expansion::key_expansion(KeySize::Aes128, KEY_A1);
-    key_schedule(b"FIPS 197 A.1 AES-128", &w, 44);
+    key_schedule(rt, b"FIPS 197 A.1 AES-128", &w, 44)
 }
 
-fn appendix_a3() {
+fn appendix_a3(rt: &impl Print) -> io::Result<()> {
     let w = aes_key_expansion::key_expansion(KeySize::Aes256, KEY_A3);
-    key_schedule(b"FIPS 197 A.3 AES-256", &w, 60);
+    key_schedule(rt, b"FIPS 197 A.3 AES-256", &w, 60)
 }
 
-fn appendix_b() {
+fn appendix_b(rt: &impl Print) -> io::Result<()> {
     let source = b"FIPS 197 B AES-128";
     let w = aes_key_expansion::key_expansion(KeySize::Aes128, KEY_A1);
-    cipher(source, 10, &w, aes_state::state_of(INPUT_B));
+    cipher(rt, source, 10, &w, aes_state::state_of(INPUT_B))?;
     let output = aes::encrypt_block(KeySize::Aes128, &w, INPUT_B);
-    test_print::value(source, b" encrypt ", output);
+    test_print::value(rt, source, b" encrypt ", output)
 }
 
-fn appendix_c1() {
+fn appendix_c1(rt: &impl Print) -> io::Result<()> {
     let w = aes_key_expansion::key_expansion(KeySize::Aes128, KEY_C1);
-    example_vectors(b"FIPS 197 C.1 AES-128", KeySize::Aes128, 10, &w);
+    example_vectors(rt, b"FIPS 197 C.1 AES-128", KeySize::Aes128, 10, &w)
 }
 
-fn appendix_c3() {
+fn appendix_c3(rt: &impl Print) -> io::Result<()> {
     let w = aes_key_expansion::key_expansion(KeySize::Aes256, KEY_C3);
-    example_vectors(b"FIPS 197 C.3 AES-256", KeySize::Aes256, 14, &w);
+    example_vectors(rt, b"FIPS 197 C.3 AES-256", KeySize::Aes256, 14, &w)
 }
 
-fn example_vectors(source: &[u8], size: KeySize, rounds: usize, w: &[[u8; 4]; 60])
+fn example_vectors(
+    rt: &impl Print,
+    source: &[u8],
+    size: KeySize,
+    rounds: usize,
+    w: &[[u8; 4]; 60],
+) -> io::Result<()>
     requires rounds_nonzero { 0 < rounds }
     requires rounds_bound { rounds < 15 }
 {
     let output = aes::encrypt_block(size, w, INPUT_C);
     let back = aes::decrypt_block(size, w, output);
-    cipher(source, rounds, w, aes_state::state_of(INPUT_C));
-    inv_cipher(source, rounds, w, aes_state::state_of(output));
-    test_print::value(source, b" encrypt ", output);
-    test_print::value(source, b" decrypt ", back);
+    cipher(rt, source, rounds, w, aes_state::state_of(INPUT_C))?;
+    inv_cipher(rt, source, rounds, w, aes_state::state_of(output))?;
+    test_print::value(rt, source, b" encrypt ", output)?;
+    test_print::value(rt, source, b" decrypt ", back)
 }
 
 // The first `count` words of the key schedule.
-fn key_schedule(source: &[u8], w: &[[u8; 4]; 60], count: usize)
+fn key_schedule(rt: &impl Print, source: &[u8], w: &[[u8; 4]; 60], count: usize) -> io::Result<()>
     requires { count ≤ 60 }
 {
     let mut i = 0;
     while i < count {
-        schedule_word(source, i, w[i]);
+        schedule_word(rt, source, i, w[i])?;
         i += 1;
     }
+    Ok(())
 }
 
-fn schedule_word(source: &[u8], i: usize, word: [u8; 4]) {
-    test_print::text(source);
-    test_print::text(b" w[");
-    test_print::number(i);
-    test_print::text(b"] ");
-    test_print::word(word);
-    test_print::newline();
+fn schedule_word(rt: &impl Print, source: &[u8], i: usize, word: [u8; 4]) -> io::Result<()> {
+    test_print::text(rt, source)?;
+    test_print::text(rt, b" w[")?;
+    test_print::number(rt, i)?;
+    test_print::text(rt, b"] ")?;
+    test_print::word(rt, word)?;
+    test_print::newline(rt)
 }
 
 // The cipher of 5.1, written out step by step.
-fn cipher(source: &[u8], rounds: usize, w: &[[u8; 4]; 60], input: State)
+fn cipher(
+    rt: &impl Print,
+    source: &[u8],
+    rounds: usize,
+    w: &[[u8; 4]; 60],
+    input: State,
+) -> io::Result<()>
     requires rounds_nonzero { 0 < rounds }
     requires rounds_bound { rounds < 15 }
 {
-    step(source, 0, b".input ", input);
+    step(rt, source, 0, b".input ", input)?;
     let mut s = key_added(
+        rt,
         source,
         0,
         b".k_sch ",
         input,
         aes_key_expansion::round_key(w, 0),
-    );
+    )?;
     let mut round = 1;
     while round < rounds {
-        let next = full_round(source, round, s, aes_key_expansion::round_key(w, round));
+        let next = full_round(rt, source, round, s, aes_key_expansion::round_key(w, round))?;
         s = next;
         round += 1;
     }
-    last_round(source, rounds, s, aes_key_expansion::round_key(w, rounds));
+    last_round(
+        rt,
+        source,
+        rounds,
+        s,
+        aes_key_expansion::round_key(w, rounds),
+    )
 }
 
-fn full_round(source: &[u8], round: usize, start: State, key: State) -> State {
-    let mixed = aes_mix_columns::mix_columns(substituted_and_shifted(source, round, start));
-    step(source, round, b".m_col ", mixed);
-    key_added(source, round, b".k_sch ", mixed, key)
+fn full_round(
+    rt: &impl Print,
+    source: &[u8],
+    round: usize,
+    start: State,
+    key: State,
+) -> io::Result<State> {
+    let mixed = aes_mix_columns::mix_columns(substituted_and_shifted(rt, source, round, start)?);
+    step(rt, source, round, b".m_col ", mixed)?;
+    key_added(rt, source, round, b".k_sch ", mixed, key)
 }
 
 // The last round has no MixColumns.
-fn last_round(source: &[u8], round: usize, start: State, key: State) {
-    let shifted = substituted_and_shifted(source, round, start);
-    let output = key_added(source, round, b".k_sch ", shifted, key);
-    step(source, round, b".output ", output);
+fn last_round(
+    rt: &impl Print,
+    source: &[u8],
+    round: usize,
+    start: State,
+    key: State,
+) -> io::Result<()> {
+    let shifted = substituted_and_shifted(rt, source, round, start)?;
+    let output = key_added(rt, source, round, b".k_sch ", shifted, key)?;
+    step(rt, source, round, b".output ", output)
 }
 
-fn substituted_and_shifted(source: &[u8], round: usize, start: State) -> State {
-    step(source, round, b".start ", start);
+fn substituted_and_shifted(
+    rt: &impl Print,
+    source: &[u8],
+    round: usize,
+    start: State,
+) -> io::Result<State> {
+    step(rt, source, round, b".start ", start)?;
     let table = aes_sbox::sbox();
     let substituted = aes_sub_bytes::sub_bytes(&table, start);
-    step(source, round, b".s_box ", substituted);
+    step(rt, source, round, b".s_box ", substituted)?;
     let shifted = aes_shift_rows::shift_rows(substituted);
-    step(source, round, b".s_row ", shifted);
-    shifted
+    step(rt, source, round, b".s_row ", shifted)?;
+    Ok(shifted)
 }
 
 // The inverse cipher of 5.3, written out step by step.
-fn inv_cipher(source: &[u8], rounds: usize, w: &[[u8; 4]; 60], input: State)
+fn inv_cipher(
+    rt: &impl Print,
+    source: &[u8],
+    rounds: usize,
+    w: &[[u8; 4]; 60],
+    input: State,
+) -> io::Result<()>
     requires rounds_nonzero { 0 < rounds }
     requires rounds_bound { rounds < 15 }
 {
-    step(source, 0, b".iinput ", input);
+    step(rt, source, 0, b".iinput ", input)?;
     let mut s = key_added(
+        rt,
         source,
         0,
         b".ik_sch ",
         input,
         aes_key_expansion::round_key(w, rounds),
-    );
+    )?;
     let mut round = 1;
     while round < rounds {
         let next = inv_full_round(
+            rt,
             source,
             round,
             s,
             aes_key_expansion::round_key(w, rounds - round),
-        );
+        )?;
         s = next;
         round += 1;
     }
-    inv_last_round(source, rounds, s, aes_key_expansion::round_key(w, 0));
+    inv_last_round(rt, source, rounds, s, aes_key_expansion::round_key(w, 0))
 }
 
-fn inv_full_round(source: &[u8], round: usize, start: State, key: State) -> State {
-    let added = inv_key_added(source, round, start, key);
-    step(source, round, b".ik_add ", added);
-    aes_mix_columns::inv_mix_columns(added)
+fn inv_full_round(
+    rt: &impl Print,
+    source: &[u8],
+    round: usize,
+    start: State,
+    key: State,
+) -> io::Result<State> {
+    let added = inv_key_added(rt, source, round, start, key)?;
+    step(rt, source, round, b".ik_add ", added)?;
+    Ok(aes_mix_columns::inv_mix_columns(added))
 }
 
 // The last round has no InvMixColumns.
-fn inv_last_round(source: &[u8], round: usize, start: State, key: State) {
-    let output = inv_key_added(source, round, start, key);
-    step(source, round, b".ioutput ", output);
+fn inv_last_round(
+    rt: &impl Print,
+    source: &[u8],
+    round: usize,
+    start: State,
+    key: State,
+) -> io::Result<()> {
+    let output = inv_key_added(rt, source, round, start, key)?;
+    step(rt, source, round, b".ioutput ", output)
 }
 
-fn inv_key_added(source: &[u8], round: usize, start: State, key: State) -> State {
-    step(source, round, b".istart ", start);
+fn inv_key_added(
+    rt: &impl Print,
+    source: &[u8],
+    round: usize,
+    start: State,
+    key: State,
+) -> io::Result<State> {
+    step(rt, source, round, b".istart ", start)?;
     let shifted = aes_shift_rows::inv_shift_rows(start);
-    step(source, round, b".is_row ", shifted);
+    step(rt, source, round, b".is_row ", shifted)?;
     let table = aes_sbox::inv_sbox();
     let substituted = aes_sub_bytes::sub_bytes(&table, shifted);
-    step(source, round, b".is_box ", substituted);
-    key_added(source, round, b".ik_sch ", substituted, key)
+    step(rt, source, round, b".is_box ", substituted)?;
+    key_added(rt, source, round, b".ik_sch ", substituted, key)
 }
 
-fn key_added(source: &[u8], round: usize, name: &[u8], s: State, key: State) -> State {
-    step(source, round, name, key);
-    aes_add_round_key::add_round_key(s, key)
+fn key_added(
+    rt: &impl Print,
+    source: &[u8],
+    round: usize,
+    name: &[u8],
+    s: State,
+    key: State,
+) -> io::Result<State> {
+    step(rt, source, round, name, key)?;
+    Ok(aes_add_round_key::add_round_key(s, key))
 }
 
-fn step(source: &[u8], round: usize, name: &[u8], s: State) {
-    test_print::text(source);
-    test_print::text(b" round[");
-    test_print::number(round);
-    test_print::text(b"]");
-    test_print::text(name);
-    test_print::state(s);
-    test_print::newline();
+fn step(rt: &impl Print, source: &[u8], round: usize, name: &[u8], s: State) -> io::Result<()> {
+    test_print::text(rt, source)?;
+    test_print::text(rt, b" round[")?;
+    test_print::number(rt, round)?;
+    test_print::text(rt, b"]")?;
+    test_print::text(rt, name)?;
+    test_print::state(rt, s)?;
+    test_print::newline(rt)
 }

@@ -4,6 +4,7 @@
 ghost use Rattle.std.specs.Prelude.{◌≤◌};
 
 use aes_key_expansion::KeySize;
+use std::io;
 
 // A 16-byte key stands in the first half.
 const KEY_128: [u8; 32] = *b"\x2b\x7e\x15\x16\x28\xae\xd2\xa6\xab\xf7\x15\x88\x09\xcf\x4f\x3c\
@@ -19,35 +20,39 @@ const PLAINTEXT: [u8; 64] = *b"\x6b\xc1\xbe\xe2\x2e\x40\x9f\x96\xe9\x3d\x7e\x11\
     \x30\xc8\x1c\x46\xa3\x5c\xe4\x11\xe5\xfb\xc1\x19\x1a\x0a\x52\xef\
     \xf6\x9f\x24\x45\xdf\x4f\x9b\x17\xad\x2b\x41\x7b\xe6\x6c\x37\x10";
 
-fn main() {
+fn main(rt: HostRuntime) -> io::Result<()> {
     let w = aes_key_expansion::key_expansion(KeySize::Aes128, KEY_128);
     let ciphertext = encrypted(KeySize::Aes128, &w, PLAINTEXT);
     blocks(
+        &rt,
         b"SP 800-38A F.2.1 CBC-AES128.Encrypt",
         b" ciphertext ",
         &ciphertext,
-    );
+    )?;
     // F.2.2 decrypts what F.2.1 encrypts, and F.2.6 what F.2.5 does.
     let plaintext = decrypted(KeySize::Aes128, &w, ciphertext);
     blocks(
+        &rt,
         b"SP 800-38A F.2.2 CBC-AES128.Decrypt",
         b" plaintext ",
         &plaintext,
-    );
+    )?;
 
     let w = aes_key_expansion::key_expansion(KeySize::Aes256, KEY_256);
     let ciphertext = encrypted(KeySize::Aes256, &w, PLAINTEXT);
     blocks(
+        &rt,
         b"SP 800-38A F.2.5 CBC-AES256.Encrypt",
         b" ciphertext ",
         &ciphertext,
-    );
+    )?;
     let plaintext = decrypted(KeySize::Aes256, &w, ciphertext);
     blocks(
+        &rt,
         b"SP 800-38A F.2.6 CBC-AES256.Decrypt",
         b" plaintext ",
         &plaintext,
-    );
+    )
 }
 
 fn encrypted(size: KeySize, w: &[[u8; 4]; 60], plaintext: [u8; 64]) -> [u8; 64] {
@@ -62,30 +67,37 @@ fn decrypted(size: KeySize, w: &[[u8; 4]; 60], ciphertext: [u8; 64]) -> [u8; 64]
     data
 }
 
-fn blocks(source: &[u8], name: &[u8], data: &[u8; 64]) {
-    block(source, b"1", name, data, 0);
-    block(source, b"2", name, data, 16);
-    block(source, b"3", name, data, 32);
-    block(source, b"4", name, data, 48);
+fn blocks(rt: &impl Print, source: &[u8], name: &[u8], data: &[u8; 64]) -> io::Result<()> {
+    block(rt, source, b"1", name, data, 0)?;
+    block(rt, source, b"2", name, data, 16)?;
+    block(rt, source, b"3", name, data, 32)?;
+    block(rt, source, b"4", name, data, 48)
 }
 
 // The block of data that starts at `at`.
-fn block(source: &[u8], number: &[u8], name: &[u8], data: &[u8; 64], at: usize)
+fn block(
+    rt: &impl Print,
+    source: &[u8],
+    number: &[u8],
+    name: &[u8],
+    data: &[u8; 64],
+    at: usize,
+) -> io::Result<()>
     requires { at ≤ 48 }
 {
-    test_print::text(source);
-    test_print::text(b" block #");
-    test_print::text(number);
-    test_print::text(name);
-    word(data, at);
-    word(data, at + 4);
-    word(data, at + 8);
-    word(data, at + 12);
-    test_print::newline();
+    test_print::text(rt, source)?;
+    test_print::text(rt, b" block #")?;
+    test_print::text(rt, number)?;
+    test_print::text(rt, name)?;
+    word(rt, data, at)?;
+    word(rt, data, at + 4)?;
+    word(rt, data, at + 8)?;
+    word(rt, data, at + 12)?;
+    test_print::newline(rt)
 }
 
-fn word(data: &[u8; 64], at: usize)
+fn word(rt: &impl Print, data: &[u8; 64], at: usize) -> io::Result<()>
     requires { at ≤ 60 }
 {
-    test_print::word([data[at], data[at + 1], data[at + 2], data[at + 3]]);
+    test_print::word(rt, [data[at], data[at + 1], data[at + 2], data[at + 3]])
 }

@@ -1,7 +1,6 @@
 -- `next_word` meets its contract: a word of the key, or one case for each line of the pseudocode.
 use mathlib.Core.Path.{ap, ap₂, ◌∙◌}
 use mathlib.Core.List.{[]}
-use mathlib.Core.Logic.{⊎_elim}
 use Prim.Native.Nat.{◌-◌}
 use native.Mathlib.Omega.{arith}
 use lib.ListN.{get_or}
@@ -10,6 +9,7 @@ use Rattle.aes_sub_bytes.specs.SubBytes.{sub_word}
 use Rattle.aes_sbox.specs.SBox.{s_box}
 use Rattle.aes_key_expansion.proofs.Schedule.{quotient_least, quotient_most, temp_first, temp_fourth, temp_other, temp_short, next_key, next_sum}
 use Rattle.aes_key_expansion.proofs.next_word.Goals as goal
+use Rattle.aes_key_expansion.proofs.next_word.Goals.{then-n-gt6+else-m-eq4, else-n-gt6}
 
 pub returns-then-i-n : goal.returns-then-i-n
 returns-then-i-n c =
@@ -46,5 +46,8 @@ returns c =
     let t = get_or a.w.now (a.i - 1) [] in
     c.add_word-2.ensures
     ∙ ap (add_word (get_or a.w.now (a.i - a.n) []))
-    (⊎_elim (λ u. temp_other a.n a.i t c.if-m-eq0.false u.0.taken u.1.left) (λ u. temp_short a.n a.i t c.if-m-eq0.false u.left) c.if-n-gt6.branch)
+    (elim c.if-n-gt6.branch [
+      then-n-gt6+else-m-eq4 w ↦ temp_other a.n a.i t c.if-m-eq0.false w.if-n-gt6.true w.if-m-eq4.false
+    | else-n-gt6 w ↦ temp_short a.n a.i t c.if-m-eq0.false w.if-n-gt6.false
+    ])
     ∙ next_sum a.n a.key.now a.w.now a.i c.if-i-n.false

@@ -29,15 +29,21 @@ replace_session-requires c =
 pub returns-in-Decoded : goal.returns-in-Decoded
 unfolding buffer over replaced
 returns-in-Decoded c =
-    let a = c.args in record { call = left_is _ _ _
+    let a = c.args in record {
+      call = left_is _ _ _
           (was_read values none [] (held_in a.session.now a.len.now) closes _ c.session_in-decoded.ensures.decoded c.in-Decoded.is
           (given 0 0 0) _ [] refl
           (c.replace_session.ensures
-          ∙ ap (put_in (held_in a.session.now a.len.now)) c.close-next.ensures) refl); bytes = c.session_in-decoded.ensures.bytes }
+          ∙ ap (put_in (held_in a.session.now a.len.now)) c.close-next.ensures) refl);
+      bytes = c.session_in-decoded.ensures.bytes;
+    }
 
 pub returns-in-Refused : goal.returns-in-Refused
 returns-in-Refused c =
-    let a = c.args in record { call = left_is _ _ _
+    let a = c.args in record {
+      call = left_is _ _ _
           (was_not_read values none [] (held_in a.session.now a.len.now) closes _ c.session_in-decoded.ensures.decoded
           _ c.in-Refused.is (given c.number.result 0 0)
-          (λ i. given (c.number.ensures i) 0 0)); bytes = c.session_in-decoded.ensures.bytes }
+          (λ i. given (c.number.ensures i) 0 0));
+      bytes = c.session_in-decoded.ensures.bytes;
+    }

@@ -7,5 +7,5 @@ use Rattle.capi_fragment_command.proofs.pivsm_fragment_command.Goals as goal
 pub returns : goal.returns
 returns c =
     let f = c.fragment_command-answer.ensures in
-    let v = c.fragment_values-values.ensures ∙ ap fragment_values f.0 in
-    λ i. left (v i).number (f.1 i) (v i).len
+    let v = c.fragment_values-values.ensures ∙ ap fragment_values f.answer in
+    λ i. left (v i).number (f.output i) (v i).len

@@ -7,5 +7,5 @@ use Rattle.capi_fragment_response.proofs.pivsm_fragment_response.Goals as goal
 pub returns : goal.returns
 returns c =
     let f = c.fragment_response-answer.ensures in
-    let v = c.response_fragment_values-values.ensures ∙ ap response_fragment_values f.0 in
-    λ i. left (v i).number (f.1 i) (v i).len (v i).next
+    let v = c.response_fragment_values-values.ensures ∙ ap response_fragment_values f.answer in
+    λ i. left (v i).number (f.output i) (v i).len (v i).next

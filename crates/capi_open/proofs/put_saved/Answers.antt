@@ -24,5 +24,5 @@ returns-in-Refused c =
     let told = c.in-Refused.is in
     let e = not_saved a.fresh c.requires (length a.session.now) _ (sym c.encode-saving.ensures.answer ∙ told) in
     let bytes = c.encode-saving.ensures.output ∙ ap (λ x. encoded_in a.session.now x a.fresh) told in
-    (λ i. left c.put_refused.result (bytes i) c.put_refused.new.1.0)
+    (λ i. left c.put_refused.result (bytes i) c.put_refused.new.len)
     ∙ left_refused a.session.now _ _ _ _ e c.put_refused.ensures.number c.put_refused.ensures.len

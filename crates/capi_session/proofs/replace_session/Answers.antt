@@ -12,7 +12,7 @@ use Rattle.capi_session.proofs.replace_session.Goals as goal
 
 pub returns-then-not-changes : goal.returns-then-not-changes
 unfolding replaced
-returns-then-not-changes c = rw (outcome (changes c.args.number) c.changes.ensures (not-true _ c.if-not-changes.true)) refl
+returns-then-not-changes c = rw (outcome (changes c.args.number) c.changes.ensures c.if-not-changes.true) refl
 
 pub returns : goal.returns
 unfolding replaced put_in
@@ -22,5 +22,5 @@ returns c =
     let l = length_encode a.next (search rules) (search rules) (search rules) (search rules) (search rules) in
     let len : c.put_session.result ≡ session_size = omega (arith, w.end, l) in
     rw (outcome (changes a.number) c.changes.ensures
-    (not-false _ c.if-not-changes.false))
+    c.if-not-changes.false)
     (λ i. held_in (wrote_all w i) (len i))

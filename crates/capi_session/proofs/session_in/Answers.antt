@@ -12,7 +12,7 @@ slice_bounds-decode-end c = sym (length-take-le _ _ c.if-len-held.true)
 pub returns-then-len-held : goal.returns-then-len-held
 unfolding session_in
 returns-then-len-held c =
-    let a = c.args in record { decoded = rw (le-leb a.len (length a.held.now) c.if-len-held.true) c.decode.ensures.decoded; bytes = λ i l. (c.shared_slice_known-1.given i).fits }
+    let a = c.args in record { decoded = rw (le-leb a.len (length a.held.now) c.if-len-held.true) c.decode.ensures.decoded; bytes = λ i l. (c.type_inv.held i).fits }
 
 pub returns : goal.returns
 unfolding session_in

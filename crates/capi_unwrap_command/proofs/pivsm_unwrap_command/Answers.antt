@@ -46,8 +46,8 @@ returns-in-Decoded c =
     let r = c.unwrap_command_with_valid_session-result.ensures in record { call = left_is _ _ _ _ _
           (was_replaced (λ x. command_values (command_answer x)) (λ m. m.payload) g.payload g.held (call g) _
           c.session_in-decoded.ensures.decoded c.in-Decoded.is c.session_in-decoded.ensures.bytes _ refl command_number _ _ _ _
-          (c.command_values-values.ensures ∙ ap (λ (x : CommandResult). command_values x.answer) r.0)
-          (ap (λ (x : CommandResult). x.session) r.0) c.replace_session.ensures r.1); bytes = c.session_in-decoded.ensures.bytes }
+          (c.command_values-values.ensures ∙ ap (λ (x : CommandResult). command_values x.answer) r.result)
+          (ap (λ (x : CommandResult). x.session) r.result) c.replace_session.ensures r.output); bytes = c.session_in-decoded.ensures.bytes }
 
 pub returns-in-Refused : goal.returns-in-Refused
 returns-in-Refused c =

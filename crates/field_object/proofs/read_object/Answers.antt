@@ -2,7 +2,6 @@
 use mathlib.Core.Path.{sym, ◌∙◌}
 use Prim.Native.Nat.{◌+◌}
 use native.Mathlib.Omega.{arith}
-use borrow.Author.Tests.{not-true, not-false}
 use Rattle.field_ber_length.proofs.LengthForms.{read_within}
 use Rattle.field_object.proofs.ObjectCases.{bad_tag, bad_form, long_form, bad_size, past_end, bad_value, whole_object}
 use Rattle.field_object.proofs.read_object.Goals as goal
@@ -11,31 +10,31 @@ pub returns-then-not-allowed : goal.returns-then-not-allowed
 returns-then-not-allowed c =
     let a = c.args in
     c.malformed.ensures
-    ∙ sym (bad_tag a.wanted a.after a.bytes.now a.at (sym c.allowed.ensures ∙ not-true _ c.if-not-allowed.true))
+    ∙ sym (bad_tag a.wanted a.after a.bytes.now a.at (sym c.allowed.ensures ∙ c.if-not-allowed.true))
 
 pub returns-in_default : goal.returns-in_default
 returns-in_default c =
     let a = c.args in
     let xs = a.bytes.now in
-    let ok = sym c.allowed.ensures ∙ not-false _ c.if-not-allowed.false in
+    let ok = sym c.allowed.ensures ∙ c.if-not-allowed.false in
     c.malformed-in_default.ensures ∙ sym (bad_form a.wanted a.after xs a.at ok (sym c.read_length.ensures ∙ c.in_default.is))
 
 pub returns-then-not-is_shortest : goal.returns-then-not-is_shortest
 returns-then-not-is_shortest c =
     let a = c.args in
     let xs = a.bytes.now in
-    let ok = sym c.allowed.ensures ∙ not-false _ c.if-not-allowed.false in
+    let ok = sym c.allowed.ensures ∙ c.if-not-allowed.false in
     let read = sym c.read_length.ensures ∙ c.in-Length.is in
-    c.malformed-then-not-is_shortest.ensures ∙ sym (long_form a.wanted a.after xs a.at ok _ _ read (sym c.is_shortest.ensures ∙ not-true _ c.if-not-is_shortest.true))
+    c.malformed-then-not-is_shortest.ensures ∙ sym (long_form a.wanted a.after xs a.at ok _ _ read (sym c.is_shortest.ensures ∙ c.if-not-is_shortest.true))
 
 pub returns-then-not-right_size : goal.returns-then-not-right_size
 returns-then-not-right_size c =
     let a = c.args in
     let xs = a.bytes.now in
-    let ok = sym c.allowed.ensures ∙ not-false _ c.if-not-allowed.false in
+    let ok = sym c.allowed.ensures ∙ c.if-not-allowed.false in
     let read = sym c.read_length.ensures ∙ c.in-Length.is in
-    let form = sym c.is_shortest.ensures ∙ not-false _ c.if-not-is_shortest.false in
-    c.malformed-then-not-right_size.ensures ∙ sym (bad_size a.wanted a.after xs a.at ok _ _ read form (sym c.right_size.ensures ∙ not-true _ c.if-not-right_size.true))
+    let form = sym c.is_shortest.ensures ∙ c.if-not-is_shortest.false in
+    c.malformed-then-not-right_size.ensures ∙ sym (bad_size a.wanted a.after xs a.at ok _ _ read form (sym c.right_size.ensures ∙ c.if-not-right_size.true))
 
 pub overflow_add-value : goal.overflow_add-value
 overflow_add-value c =
@@ -49,10 +48,10 @@ pub returns-then-bytes-value : goal.returns-then-bytes-value
 returns-then-bytes-value c =
     let a = c.args in
     let xs = a.bytes.now in
-    let ok = sym c.allowed.ensures ∙ not-false _ c.if-not-allowed.false in
+    let ok = sym c.allowed.ensures ∙ c.if-not-allowed.false in
     let read = sym c.read_length.ensures ∙ c.in-Length.is in
-    let form = sym c.is_shortest.ensures ∙ not-false _ c.if-not-is_shortest.false in
-    let fit = sym c.right_size.ensures ∙ not-false _ c.if-not-right_size.false in
+    let form = sym c.is_shortest.ensures ∙ c.if-not-is_shortest.false in
+    let fit = sym c.right_size.ensures ∙ c.if-not-right_size.false in
     let inside = read_within xs (a.at + 1) _ _ read in
     c.malformed-then-bytes-value.ensures ∙ sym (past_end a.wanted a.after xs a.at ok _ _ read form fit (omega (arith, inside, c.if-bytes-value.true)))
 
@@ -60,13 +59,13 @@ pub returns-then-not-right_value : goal.returns-then-not-right_value
 returns-then-not-right_value c =
     let a = c.args in
     let xs = a.bytes.now in
-    let ok = sym c.allowed.ensures ∙ not-false _ c.if-not-allowed.false in
+    let ok = sym c.allowed.ensures ∙ c.if-not-allowed.false in
     let read = sym c.read_length.ensures ∙ c.in-Length.is in
-    let form = sym c.is_shortest.ensures ∙ not-false _ c.if-not-is_shortest.false in
-    let fit = sym c.right_size.ensures ∙ not-false _ c.if-not-right_size.false in
+    let form = sym c.is_shortest.ensures ∙ c.if-not-is_shortest.false in
+    let fit = sym c.right_size.ensures ∙ c.if-not-right_size.false in
     let inside = read_within xs (a.at + 1) _ _ read in
     c.malformed-then-not-right_value.ensures
-    ∙ sym (bad_value a.wanted a.after xs a.at ok _ _ read form fit (omega (arith, inside, c.if-bytes-value.false)) (sym c.right_value.ensures ∙ not-true _ c.if-not-right_value.true))
+    ∙ sym (bad_value a.wanted a.after xs a.at ok _ _ read form fit (omega (arith, inside, c.if-bytes-value.false)) (sym c.right_value.ensures ∙ c.if-not-right_value.true))
 
 pub overflow_add-result : goal.overflow_add-result
 overflow_add-result c =
@@ -76,9 +75,9 @@ pub returns : goal.returns
 returns c =
     let a = c.args in
     let xs = a.bytes.now in
-    let ok = sym c.allowed.ensures ∙ not-false _ c.if-not-allowed.false in
+    let ok = sym c.allowed.ensures ∙ c.if-not-allowed.false in
     let read = sym c.read_length.ensures ∙ c.in-Length.is in
-    let form = sym c.is_shortest.ensures ∙ not-false _ c.if-not-is_shortest.false in
-    let fit = sym c.right_size.ensures ∙ not-false _ c.if-not-right_size.false in
+    let form = sym c.is_shortest.ensures ∙ c.if-not-is_shortest.false in
+    let fit = sym c.right_size.ensures ∙ c.if-not-right_size.false in
     let inside = read_within xs (a.at + 1) _ _ read in
-    sym (whole_object a.wanted a.after xs a.at ok _ _ read form fit (omega (arith, inside, c.if-bytes-value.false)) (sym c.right_value.ensures ∙ not-false _ c.if-not-right_value.false))
+    sym (whole_object a.wanted a.after xs a.at ok _ _ read form fit (omega (arith, inside, c.if-bytes-value.false)) (sym c.right_value.ensures ∙ c.if-not-right_value.false))

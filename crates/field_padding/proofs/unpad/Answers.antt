@@ -2,7 +2,7 @@
 use borrow.Author.Rules.{rules}
 use mathlib.Core.Path.{sym, ◌∙◌}
 use native.Mathlib.Omega.{arith}
-use Rattle.field_padding.specs.Padding.{marked, unpad}
+use Rattle.field_padding.specs.Padding.{unpad}
 use Rattle.field_padding.proofs.Unpadding.{back_over_zero, back_to_mark, back_to_none}
 use Rattle.field_padding.proofs.unpad.Goals as goal
 

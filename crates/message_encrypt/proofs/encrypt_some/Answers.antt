@@ -20,6 +20,6 @@ encrypt_start-requires c =
 pub returns : goal.returns
 returns c =
     let a = c.args in
-    let n : length a.sk-enc ≡ 32 = search (rules, c.well_formed) in
-    encrypted_in a.suite a.sk-enc a.counter a.«data».now n c.requires.0 a.text.now _ _ _ c.put_padded-n.ensures
+    let n : length a.sk_enc ≡ 32 = search (rules, c.well_formed) in
+    encrypted_in a.suite a.sk_enc a.counter a.«data».now n c.requires.0 a.text.now _ _ _ c.put_padded-n.ensures
     (c.encrypt_start.ensures ∙ simp (c.encrypt_block-iv.ensures, c.key_size-size.ensures, c.expanded-w.ensures))

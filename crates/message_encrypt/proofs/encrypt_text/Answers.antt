@@ -11,7 +11,7 @@ use Rattle.message_encrypt.proofs.encrypt_text.Goals as goal
 pub returns-then-data-eq0 : goal.returns-then-data-eq0
 returns-then-data-eq0 c =
     let a = c.args in
-    rw (encrypt_none (key_in a.suite a.sk-enc) a.counter a.«data».now c.if-data-eq0.true) (wrote_none a.text.now 0)
+    rw (encrypt_none (key_in a.suite a.sk_enc) a.counter a.«data».now c.if-data-eq0.true) (wrote_none a.text.now 0)
 
 pub encrypt_some-requires : goal.encrypt_some-requires
 unfolding ciphertext_length

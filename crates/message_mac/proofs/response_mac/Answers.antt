@@ -10,6 +10,6 @@ pub returns : goal.returns
 unfolding response_mac_input
 returns c =
     let a = c.args in
-    let n : length a.sk-rmac ≡ 32 = search rules in
+    let n : length a.sk_rmac ≡ 32 = search rules in
     simp (c.finish.ensures, c.absorb-whole.ensures, c.absorb-chained.ensures, c.start.ensures, c.key_size-size.ensures, c.expanded-w.ensures)
-    (in_two_parts a.suite a.sk-rmac n a.mcv a.covered.now)
+    (in_two_parts a.suite a.sk_rmac n a.mcv a.covered.now)

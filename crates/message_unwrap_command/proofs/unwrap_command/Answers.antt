@@ -13,9 +13,10 @@ pub returns-then-not-valid : goal.returns-then-not-valid
 unfolding card_unwraps unwrap_command_checks
 returns-then-not-valid c =
     let a = c.args in
-    stage_refused a.session command_result payload_of a.out.now
-    (first_refused _ _ _ _ (broken_not_served a.session (outcome _ c.valid.ensures (not-true _ c.if-not-valid.true))))
-    c.refused_command.ensures
+    let m = stage_refused a.session command_result payload_of a.out.now
+    (first_refused _ _ _ _ (broken_not_served a.session (outcome _ c.valid.ensures c.if-not-valid.true)))
+    c.refused_command.ensures in
+    record { result = m.0; output = m.1 }
 
 pub unwrap_command_with_valid_session-requires : goal.unwrap_command_with_valid_session-requires
-unwrap_command_with_valid_session-requires c = outcome _ c.valid.ensures (not-false _ c.if-not-valid.false)
+unwrap_command_with_valid_session-requires c = outcome _ c.valid.ensures c.if-not-valid.false

@@ -19,12 +19,14 @@ pub returns-in-Passed : goal.returns-in-Passed
 unfolding card_unwraps
 returns-in-Passed c =
     let a = c.args in
-    stage_goes_on a.session command_result payload_of a.out.now
-    (tests_passed _ _ (sym c.unwrap_command_checks-checked.ensures ∙ c.in-Passed.is)) c.read_command.ensures
+    let m = stage_goes_on a.session command_result payload_of a.out.now
+    (tests_passed _ _ (sym c.unwrap_command_checks-checked.ensures ∙ c.in-Passed.is)) (c.read_command.ensures.result, c.read_command.ensures.output) in
+    record { result = m.0; output = m.1 }
 
 pub returns-in-Refused : goal.returns-in-Refused
 unfolding card_unwraps
 returns-in-Refused c =
     let a = c.args in
-    stage_refused a.session command_result payload_of a.out.now
-    (test_refused _ _ (sym c.unwrap_command_checks-checked.ensures ∙ c.in-Refused.is)) c.refused_command.ensures
+    let m = stage_refused a.session command_result payload_of a.out.now
+    (test_refused _ _ (sym c.unwrap_command_checks-checked.ensures ∙ c.in-Refused.is)) c.refused_command.ensures in
+    record { result = m.0; output = m.1 }

@@ -23,19 +23,22 @@ pub returns-in-Read : goal.returns-in-Read
 returns-in-Read c =
     let a = c.args in
     let is_read = c.read_field-read.ensures ∙ ap (λ (w : Wanted). read_field w a.field.now) c.response_wanted.ensures in
-    stage_goes_on a.session response_result payload_of a.out.now
-    (when_read _ _ _ (sym is_read ∙ c.in-Read.is)) c.open_objects.ensures
+    let m = stage_goes_on a.session response_result payload_of a.out.now
+    (when_read _ _ _ (sym is_read ∙ c.in-Read.is)) (c.open_objects.ensures.result, c.open_objects.ensures.output) in
+    record { result = m.0; output = m.1 }
 
 pub returns-in-Malformed : goal.returns-in-Malformed
 returns-in-Malformed c =
     let a = c.args in
     let is_read = c.read_field-read.ensures ∙ ap (λ (w : Wanted). read_field w a.field.now) c.response_wanted.ensures in
-    stage_refused a.session response_result payload_of a.out.now
-    (when_malformed _ _ _ (sym is_read ∙ c.in-Malformed.is)) c.refused_response.ensures
+    let m = stage_refused a.session response_result payload_of a.out.now
+    (when_malformed _ _ _ (sym is_read ∙ c.in-Malformed.is)) c.refused_response.ensures in
+    record { result = m.0; output = m.1 }
 
 pub returns-in-Missing : goal.returns-in-Missing
 returns-in-Missing c =
     let a = c.args in
     let is_read = c.read_field-read.ensures ∙ ap (λ (w : Wanted). read_field w a.field.now) c.response_wanted.ensures in
-    stage_refused a.session response_result payload_of a.out.now
-    (when_missing _ _ _ _ (sym is_read ∙ c.in-Missing.is)) c.refused_response-in-Missing.ensures
+    let m = stage_refused a.session response_result payload_of a.out.now
+    (when_missing _ _ _ _ (sym is_read ∙ c.in-Missing.is)) c.refused_response-in-Missing.ensures in
+    record { result = m.0; output = m.1 }

@@ -16,12 +16,14 @@ pub returns-in-Passed : goal.returns-in-Passed
 unfolding host_unwraps
 returns-in-Passed c =
     let a = c.args in
-    stage_goes_on a.session response_result payload_of a.out.now
-    (tests_passed _ _ (sym c.unwrap_response_checks-checked.ensures ∙ c.in-Passed.is)) c.read_response.ensures
+    let m = stage_goes_on a.session response_result payload_of a.out.now
+    (tests_passed _ _ (sym c.unwrap_response_checks-checked.ensures ∙ c.in-Passed.is)) (c.read_response.ensures.result, c.read_response.ensures.output) in
+    record { result = m.0; output = m.1 }
 
 pub returns-in-Refused : goal.returns-in-Refused
 unfolding host_unwraps
 returns-in-Refused c =
     let a = c.args in
-    stage_refused a.session response_result payload_of a.out.now
-    (test_refused _ _ (sym c.unwrap_response_checks-checked.ensures ∙ c.in-Refused.is)) c.refused_response.ensures
+    let m = stage_refused a.session response_result payload_of a.out.now
+    (test_refused _ _ (sym c.unwrap_response_checks-checked.ensures ∙ c.in-Refused.is)) c.refused_response.ensures in
+    record { result = m.0; output = m.1 }

@@ -11,13 +11,15 @@ use Rattle.message_verify.proofs.verified_text.Goals as goal
 pub returns-then-needed-out : goal.returns-then-needed-out
 returns-then-needed-out c =
     let a = c.args in
-    no_room (key_in a.suite a.sk-enc) a.counter a.full (received a.mac.now a.ciphertext.now) a.out.now c.if-needed-out.true
+    let m = no_room (key_in a.suite a.sk_enc) a.counter a.full (received a.mac.now a.ciphertext.now) a.out.now c.if-needed-out.true in
+    record { answer = m.0; output = m.1 }
 
 pub returns-then-not-mac_matches : goal.returns-then-not-mac_matches
 returns-then-not-mac_matches c =
     let a = c.args in
-    wrong_mac (key_in a.suite a.sk-enc) a.counter a.full (received a.mac.now a.ciphertext.now) a.out.now c.if-needed-out.false
-    (outcome _ (c.mac_matches.ensures ∙ ap (same a.mac.now) c.truncated.ensures) (not-true _ c.if-not-mac_matches.true))
+    let m = wrong_mac (key_in a.suite a.sk_enc) a.counter a.full (received a.mac.now a.ciphertext.now) a.out.now c.if-needed-out.false
+    (outcome _ (c.mac_matches.ensures ∙ ap (same a.mac.now) c.truncated.ensures) c.if-not-mac_matches.true) in
+    record { answer = m.0; output = m.1 }
 
 pub decrypt_text-text-requires : goal.decrypt_text-text-requires
 decrypt_text-text-requires c =
@@ -27,15 +29,17 @@ decrypt_text-text-requires c =
 pub returns-in_default : goal.returns-in_default
 returns-in_default c =
     let a = c.args in
-    wrong_padding (key_in a.suite a.sk-enc) a.counter a.full (received a.mac.now a.ciphertext.now) a.out.now c.if-needed-out.false
+    let m = wrong_padding (key_in a.suite a.sk_enc) a.counter a.full (received a.mac.now a.ciphertext.now) a.out.now c.if-needed-out.false
     (outcome _ (c.mac_matches.ensures ∙ ap (same a.mac.now) c.truncated.ensures)
-    (not-false _ c.if-not-mac_matches.false))
-    _ _ c.decrypt_text-text.ensures.answer c.decrypt_text-text.ensures.output c.in_default.is
+    c.if-not-mac_matches.false)
+    _ _ c.decrypt_text-text.ensures.answer c.decrypt_text-text.ensures.output c.in_default.is in
+    record { answer = m.0; output = m.1 }
 
 pub returns : goal.returns
 returns c =
     let a = c.args in
-    data_verified (key_in a.suite a.sk-enc) a.counter a.full (received a.mac.now a.ciphertext.now) a.out.now c.if-needed-out.false
+    let m = data_verified (key_in a.suite a.sk_enc) a.counter a.full (received a.mac.now a.ciphertext.now) a.out.now c.if-needed-out.false
     (outcome _ (c.mac_matches.ensures ∙ ap (same a.mac.now) c.truncated.ensures)
-    (not-false _ c.if-not-mac_matches.false))
-    _ _ c.decrypt_text-text.ensures.answer c.decrypt_text-text.ensures.output _ c.in-Data.is
+    c.if-not-mac_matches.false)
+    _ _ c.decrypt_text-text.ensures.answer c.decrypt_text-text.ensures.output _ c.in-Data.is in
+    record { answer = m.0; output = m.1 }

@@ -25,9 +25,9 @@ returns-then-not-valid c =
     (λ i. let f : Fits w8 (get_or session.sk_rmac i 0) = search (rules, sized) in f.fits) in
     let a = c.args in
     let ends = stage_refused a.session wrap_result (λ (field : Bytes). field) a.out.now
-    (first_refused _ _ _ _ (broken_not_served a.session (outcome _ c.valid.ensures (not-true _ c.if-not-valid.true))))
+    (first_refused _ _ _ _ (broken_not_served a.session (outcome _ c.valid.ensures c.if-not-valid.true)))
     c.refused_wrap.ensures in
     record { result = ends.0; output = ends.1; bytes = λ i l. (c.type_inv.data i).fits; keyed = keyed }
 
 pub wrap_response_with_valid_session-requires : goal.wrap_response_with_valid_session-requires
-wrap_response_with_valid_session-requires c = outcome _ c.valid.ensures (not-false _ c.if-not-valid.false)
+wrap_response_with_valid_session-requires c = outcome _ c.valid.ensures c.if-not-valid.false

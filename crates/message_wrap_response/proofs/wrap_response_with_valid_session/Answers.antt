@@ -34,7 +34,7 @@ returns-in-Passed c =
     (λ i. let f : Fits w8 (get_or session.sk_rmac i 0) = search (rules, sized) in f.fits) in
     let a = c.args in
     let ends = stage_goes_on a.session wrap_result (λ (field : Bytes). field) a.out.now
-    (tests_passed _ _ (sym c.wrap_response_checks-checked.ensures ∙ c.in-Passed.is)) c.write_response.ensures in
+    (tests_passed _ _ (sym c.wrap_response_checks-checked.ensures ∙ c.in-Passed.is)) (c.write_response.ensures.result, c.write_response.ensures.output) in
     record { result = ends.0; output = ends.1; bytes = λ i l. (c.type_inv.data i).fits; keyed = keyed }
 
 pub returns-in-Refused : goal.returns-in-Refused

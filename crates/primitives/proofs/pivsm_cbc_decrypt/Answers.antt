@@ -6,6 +6,9 @@ use Rattle.octets.specs.Bytes.{Bytes}
 use Rattle.aes.specs.Aes.{inv_ciph, inv_aes}
 use Rattle.aes_key_expansion.specs.declared.KeySize.{KeySize}
 use Rattle.mode_cbc.specs.Cbc.{cbc_decrypt}
+use mathlib.Core.Bool.{◌&&◌}
+use Rattle.mode_cbc.specs.Whole.{whole}
+use Rattle.primitives.specs.Calls.{block_long}
 use Rattle.primitives.proofs.Results.{key_fits, bad_key, malformed, cbc_done, cbc_partial}
 use Rattle.primitives.proofs.pivsm_cbc_decrypt.Goals as goal
 
@@ -16,22 +19,33 @@ pub returns-in-Done : goal.returns-in-Done
 unfolding inv_aes
 returns-in-Done c =
     let a = c.args in
-    cbc_done a.key.now a.iv.now a.«data».now _ (sym c.key_size.ensures ∙ c.in-Of.is)
-    c.if-iv-ne16.false cbc c.expanded-w.ensures c.block_at.ensures c.decrypt.ensures.answer c.decrypt.ensures.buffer c.in-Done.is
+    let m = cbc_done a.key.now a.iv.now a.«data».now c.in-Of.size (sym c.key_size.ensures ∙ c.in-Of.is)
+        c.if-iv-ne16.false cbc c.expanded-w.ensures c.block_at.ensures c.decrypt.ensures.answer c.decrypt.ensures.buffer c.in-Done.is in
+    record { answer = m.0; buffer = m.1 }
 
 pub returns-in-PartialBlock : goal.returns-in-PartialBlock
 unfolding inv_aes
 returns-in-PartialBlock c =
     let a = c.args in
-    cbc_partial a.key.now a.iv.now a.«data».now _ (sym c.key_size.ensures ∙ c.in-Of.is)
-    c.if-iv-ne16.false cbc c.expanded-w.ensures c.block_at.ensures c.decrypt.ensures.answer c.decrypt.ensures.buffer c.in-PartialBlock.is
+    let m = cbc_partial a.key.now a.iv.now a.«data».now c.in-Of.size (sym c.key_size.ensures ∙ c.in-Of.is)
+        c.if-iv-ne16.false cbc c.expanded-w.ensures c.block_at.ensures c.decrypt.ensures.answer c.decrypt.ensures.buffer c.in-PartialBlock.is in
+    record { answer = m.0; buffer = m.1 }
 
 pub returns-in_default : goal.returns-in_default
-returns-in_default c = bad_key _ _ _ _ (sym c.key_size.ensures ∙ c.in_default.is)
+returns-in_default c =
+    let a = c.args in
+    let xs = a.«data».now in
+    let m = bad_key a.key.now (block_long a.iv.now && whole xs) (λ s k. cbc_decrypt (inv_aes s k) a.iv.now xs) xs
+        (sym c.key_size.ensures ∙ c.in_default.is) in
+    record { answer = m.0; buffer = m.1 }
 
 pub returns-then-iv-ne16 : goal.returns-then-iv-ne16
-returns-then-iv-ne16 c = malformed _ _ _ _ _ (sym c.key_size.ensures ∙ c.in-Of.is)
-    (simp (ne_eqb _ _ c.if-iv-ne16.true))
+returns-then-iv-ne16 c =
+    let a = c.args in
+    let xs = a.«data».now in
+    let m = malformed a.key.now (block_long a.iv.now && whole xs) (λ s k. cbc_decrypt (inv_aes s k) a.iv.now xs) xs
+        c.in-Of.size (sym c.key_size.ensures ∙ c.in-Of.is) (simp (ne_eqb _ _ c.if-iv-ne16.true)) in
+    record { answer = m.0; buffer = m.1 }
 
 pub expanded-w-requires : goal.expanded-w-requires
 expanded-w-requires c = key_fits _ _ (sym c.key_size.ensures ∙ c.in-Of.is)

@@ -10,32 +10,32 @@ use Rattle.message_unwrap_command.proofs.checks.unwrap_command_checks.Goals as g
 pub returns-then-not-is_open : goal.returns-then-not-is_open
 unfolding unwrap_command_checks require◌else◌⨾◌
 returns-then-not-is_open c =
-    rw (served_by_phase _ c.requires ∙ outcome _ c.is_open.ensures (not-true _ c.if-not-is_open.true))
+    rw (served_by_phase _ c.requires ∙ outcome _ c.is_open.ensures c.if-not-is_open.true)
 
 pub returns-then-not-is_turn : goal.returns-then-not-is_turn
 unfolding unwrap_command_checks require◌else◌⨾◌
 returns-then-not-is_turn c =
     rw (
-      served_by_phase _ c.requires ∙ outcome _ c.is_open.ensures (not-false _ c.if-not-is_open.false),
-      outcome _ c.is_turn.ensures (not-true _ c.if-not-is_turn.true),
+      served_by_phase _ c.requires ∙ outcome _ c.is_open.ensures c.if-not-is_open.false,
+      outcome _ c.is_turn.ensures c.if-not-is_turn.true,
     )
 
 pub returns-then-not-ins_permitted : goal.returns-then-not-ins_permitted
 unfolding unwrap_command_checks require◌else◌⨾◌
 returns-then-not-ins_permitted c =
     rw (
-      served_by_phase _ c.requires ∙ outcome _ c.is_open.ensures (not-false _ c.if-not-is_open.false),
-      outcome _ c.is_turn.ensures (not-false _ c.if-not-is_turn.false),
-      outcome _ c.ins_permitted.ensures (not-true _ c.if-not-ins_permitted.true),
+      served_by_phase _ c.requires ∙ outcome _ c.is_open.ensures c.if-not-is_open.false,
+      outcome _ c.is_turn.ensures c.if-not-is_turn.false,
+      outcome _ c.ins_permitted.ensures c.if-not-ins_permitted.true,
     )
 
 pub returns-then-n-gt-MAX_COMMAND_FIELD : goal.returns-then-n-gt-MAX_COMMAND_FIELD
 unfolding unwrap_command_checks require◌else◌⨾◌
 returns-then-n-gt-MAX_COMMAND_FIELD c =
     rw (
-      served_by_phase _ c.requires ∙ outcome _ c.is_open.ensures (not-false _ c.if-not-is_open.false),
-      outcome _ c.is_turn.ensures (not-false _ c.if-not-is_turn.false),
-      outcome _ c.ins_permitted.ensures (not-false _ c.if-not-ins_permitted.false),
+      served_by_phase _ c.requires ∙ outcome _ c.is_open.ensures c.if-not-is_open.false,
+      outcome _ c.is_turn.ensures c.if-not-is_turn.false,
+      outcome _ c.ins_permitted.ensures c.if-not-ins_permitted.false,
       lt-leb c.args.n 2066 c.if-n-gt-MAX_COMMAND_FIELD.true,
     )
 
@@ -43,9 +43,9 @@ pub returns-then-count-ge-COMMAND_LIMIT : goal.returns-then-count-ge-COMMAND_LIM
 unfolding unwrap_command_checks require◌else◌⨾◌
 returns-then-count-ge-COMMAND_LIMIT c =
     rw (
-      served_by_phase _ c.requires ∙ outcome _ c.is_open.ensures (not-false _ c.if-not-is_open.false),
-      outcome _ c.is_turn.ensures (not-false _ c.if-not-is_turn.false),
-      outcome _ c.ins_permitted.ensures (not-false _ c.if-not-ins_permitted.false),
+      served_by_phase _ c.requires ∙ outcome _ c.is_open.ensures c.if-not-is_open.false,
+      outcome _ c.is_turn.ensures c.if-not-is_turn.false,
+      outcome _ c.ins_permitted.ensures c.if-not-ins_permitted.false,
       le-leb c.args.n 2066 c.if-n-gt-MAX_COMMAND_FIELD.false,
       le-ltb c.args.session.count 65535 c.if-count-ge-COMMAND_LIMIT.true,
     )
@@ -54,9 +54,9 @@ pub returns : goal.returns
 unfolding unwrap_command_checks require◌else◌⨾◌
 returns c =
     rw (
-      served_by_phase _ c.requires ∙ outcome _ c.is_open.ensures (not-false _ c.if-not-is_open.false),
-      outcome _ c.is_turn.ensures (not-false _ c.if-not-is_turn.false),
-      outcome _ c.ins_permitted.ensures (not-false _ c.if-not-ins_permitted.false),
+      served_by_phase _ c.requires ∙ outcome _ c.is_open.ensures c.if-not-is_open.false,
+      outcome _ c.is_turn.ensures c.if-not-is_turn.false,
+      outcome _ c.ins_permitted.ensures c.if-not-ins_permitted.false,
       le-leb c.args.n 2066 c.if-n-gt-MAX_COMMAND_FIELD.false,
       lt-ltb c.args.session.count 65535 c.if-count-ge-COMMAND_LIMIT.false,
     )

@@ -12,14 +12,16 @@ unfolding open_command command_accepted
 returns-in-Data c =
     let a = c.args in
     rw (← c.command_counter-counter.ensures)
-    (opens_data a.session command_result payload_of (command_accepted a.session a.le a.full) a.out.now _ _ _ _
+    (let m = opens_data a.session command_result payload_of (command_accepted a.session a.le a.full) a.out.now _ _ _ _
     (sym c.verified_text-text.ensures.answer ∙ c.in-Data.is) c.verified_text-text.ensures.output (λ d. refl)
-    (λ d l i. record { answer = Accepted (l i) a.le; session = c.command_taken-next.ensures i }))
+    (λ d l i. record { answer = Accepted (l i) a.le; session = c.command_taken-next.ensures i }) in
+    record { result = m.0; output = m.1 })
 
 pub returns-in-Refused : goal.returns-in-Refused
 unfolding open_command
 returns-in-Refused c =
     let a = c.args in
     rw (← c.command_counter-counter.ensures)
-    (opens_refused a.session command_result payload_of (command_accepted a.session a.le a.full) a.out.now _ _ _ _
-    (sym c.verified_text-text.ensures.answer ∙ c.in-Refused.is) c.verified_text-text.ensures.output c.refused_command.ensures)
+    (let m = opens_refused a.session command_result payload_of (command_accepted a.session a.le a.full) a.out.now _ _ _ _
+    (sym c.verified_text-text.ensures.answer ∙ c.in-Refused.is) c.verified_text-text.ensures.output c.refused_command.ensures in
+    record { result = m.0; output = m.1 })

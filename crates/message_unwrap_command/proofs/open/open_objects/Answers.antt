@@ -27,7 +27,8 @@ pub returns : goal.returns
 unfolding command_mac command_input aes_ciphers
 returns c =
     let a = c.args in
-    stage_goes_on a.session command_result payload_of a.out.now
+    let m = stage_goes_on a.session command_result payload_of a.out.now
     (ap₂ (λ (full : Bytes) (r : Received). open_command a.session a.objects.second full r (length a.out.now))
     (sym c.command_mac-full.ensures) (sym (slices_are a.field.now a.objects)))
-    c.open_command.ensures
+    (c.open_command.ensures.result, c.open_command.ensures.output) in
+    record { result = m.0; output = m.1 }

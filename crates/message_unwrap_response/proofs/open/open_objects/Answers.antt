@@ -29,7 +29,8 @@ pub returns : goal.returns
 unfolding response_mac aes_ciphers
 returns c =
     let a = c.args in
-    stage_goes_on a.session response_result payload_of a.out.now
+    let m = stage_goes_on a.session response_result payload_of a.out.now
     (ap₂ (λ (full : Bytes) (r : Received). open_response a.session a.sw1 a.sw2 full r (length a.out.now))
     (sym c.response_mac-full.ensures) (sym (slices_are a.field.now a.objects)))
-    c.open_response.ensures
+    (c.open_response.ensures.result, c.open_response.ensures.output) in
+    record { result = m.0; output = m.1 }

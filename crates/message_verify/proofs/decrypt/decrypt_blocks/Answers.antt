@@ -8,5 +8,5 @@ use Rattle.message_verify.proofs.decrypt.decrypt_blocks.Goals as goal
 pub returns-then-ciphertext-eq0 : goal.returns-then-ciphertext-eq0
 returns-then-ciphertext-eq0 c =
     let a = c.args in
-    let n : length a.sk-enc ≡ 32 = search (rules, c.well_formed) in
-    no_blocks a.suite a.sk-enc a.counter a.ciphertext.now n a.text.now c.if-ciphertext-eq0.true
+    let n : length a.sk_enc ≡ 32 = search (rules, c.well_formed) in
+    no_blocks a.suite a.sk_enc a.counter a.ciphertext.now n a.text.now c.if-ciphertext-eq0.true

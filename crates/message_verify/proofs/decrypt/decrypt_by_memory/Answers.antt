@@ -8,7 +8,8 @@ use Rattle.message_verify.proofs.InMemory.{data_within, nothing_out, data_out}
 use Rattle.message_verify.proofs.decrypt.decrypt_by_memory.Goals as goal
 
 pub returns-in_default : goal.returns-in_default
-returns-in_default c = nothing_out _ _ _ _ _ c.decrypt_blocks-found.ensures c.in_default.is
+returns-in_default c = let m = nothing_out _ _ _ _ _ c.decrypt_blocks-found.ensures c.in_default.is in
+    record { answer = m.0; output = m.1 }
 
 pub slice_bounds-put_bytes-end : goal.slice_bounds-put_bytes-end
 slice_bounds-put_bytes-end c =
@@ -27,6 +28,7 @@ put_bytes-requires c =
 
 pub returns : goal.returns
 returns c =
-    data_out _ _ _ _ _ _ _ c.decrypt_blocks-found.ensures
+    let m = data_out _ _ _ _ _ _ _ c.decrypt_blocks-found.ensures
     (omega (arith, c.decrypt_blocks-found.auto, c.requires.1)) c.in-Data.is
-    (wrote_all c.put_bytes.ensures)
+    (wrote_all c.put_bytes.ensures) in
+    record { answer = m.0; output = m.1 }

@@ -23,8 +23,8 @@ slice_bounds-unpad-end-2 c =
 pub returns : goal.returns
 returns c =
     let a = c.args in
-    let n : length a.sk-enc ≡ 32 = search (rules, c.well_formed) in
-    in_memory a.suite a.sk-enc a.counter a.ciphertext.now n c.requires.0 a.text.now _ _ _ _ c.put_bytes-n.ensures
+    let n : length a.sk_enc ≡ 32 = search (rules, c.well_formed) in
+    in_memory a.suite a.sk_enc a.counter a.ciphertext.now n c.requires.0 a.text.now _ _ _ _ c.put_bytes-n.ensures
     (c.decrypt_start.ensures.text ∙ simp (c.encrypt_block-iv.ensures, c.key_size-size.ensures, c.expanded-w.ensures))
     (simp (c.encrypt_block-iv.ensures, c.key_size-size.ensures, c.expanded-w.ensures) at c.decrypt_start.ensures.length)
     c.unpad.ensures

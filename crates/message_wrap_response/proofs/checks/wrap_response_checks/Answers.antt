@@ -11,32 +11,32 @@ use Rattle.message_wrap_response.proofs.checks.wrap_response_checks.Goals as goa
 pub returns-then-not-is_open : goal.returns-then-not-is_open
 unfolding wrap_response_checks require◌else◌⨾◌
 returns-then-not-is_open c =
-    rw (served_by_phase _ c.requires ∙ outcome _ c.is_open.ensures (not-true _ c.if-not-is_open.true))
+    rw (served_by_phase _ c.requires ∙ outcome _ c.is_open.ensures c.if-not-is_open.true)
 
 pub returns-then-not-is_turn : goal.returns-then-not-is_turn
 unfolding wrap_response_checks require◌else◌⨾◌
 returns-then-not-is_turn c =
     rw (
-      served_by_phase _ c.requires ∙ outcome _ c.is_open.ensures (not-false _ c.if-not-is_open.false),
-      outcome _ c.is_turn.ensures (not-true _ c.if-not-is_turn.true),
+      served_by_phase _ c.requires ∙ outcome _ c.is_open.ensures c.if-not-is_open.false,
+      outcome _ c.is_turn.ensures c.if-not-is_turn.true,
     )
 
 pub returns-then-not-status_permitted : goal.returns-then-not-status_permitted
 unfolding wrap_response_checks require◌else◌⨾◌
 returns-then-not-status_permitted c =
     rw (
-      served_by_phase _ c.requires ∙ outcome _ c.is_open.ensures (not-false _ c.if-not-is_open.false),
-      outcome _ c.is_turn.ensures (not-false _ c.if-not-is_turn.false),
-      outcome _ c.status_permitted.ensures (not-true _ c.if-not-status_permitted.true),
+      served_by_phase _ c.requires ∙ outcome _ c.is_open.ensures c.if-not-is_open.false,
+      outcome _ c.is_turn.ensures c.if-not-is_turn.false,
+      outcome _ c.status_permitted.ensures c.if-not-status_permitted.true,
     )
 
 pub returns-then-n-gt-MAX_RESPONSE_DATA : goal.returns-then-n-gt-MAX_RESPONSE_DATA
 unfolding wrap_response_checks require◌else◌⨾◌
 returns-then-n-gt-MAX_RESPONSE_DATA c =
     rw (
-      served_by_phase _ c.requires ∙ outcome _ c.is_open.ensures (not-false _ c.if-not-is_open.false),
-      outcome _ c.is_turn.ensures (not-false _ c.if-not-is_turn.false),
-      outcome _ c.status_permitted.ensures (not-false _ c.if-not-status_permitted.false),
+      served_by_phase _ c.requires ∙ outcome _ c.is_open.ensures c.if-not-is_open.false,
+      outcome _ c.is_turn.ensures c.if-not-is_turn.false,
+      outcome _ c.status_permitted.ensures c.if-not-status_permitted.false,
       lt-leb c.args.n 16383 c.if-n-gt-MAX_RESPONSE_DATA.true,
     )
 
@@ -47,9 +47,9 @@ pub returns-then-needed-room : goal.returns-then-needed-room
 unfolding wrap_response_checks require◌else◌⨾◌
 returns-then-needed-room c =
     rw (
-      served_by_phase _ c.requires ∙ outcome _ c.is_open.ensures (not-false _ c.if-not-is_open.false),
-      outcome _ c.is_turn.ensures (not-false _ c.if-not-is_turn.false),
-      outcome _ c.status_permitted.ensures (not-false _ c.if-not-status_permitted.false),
+      served_by_phase _ c.requires ∙ outcome _ c.is_open.ensures c.if-not-is_open.false,
+      outcome _ c.is_turn.ensures c.if-not-is_turn.false,
+      outcome _ c.status_permitted.ensures c.if-not-status_permitted.false,
       le-leb c.args.n 16383 c.if-n-gt-MAX_RESPONSE_DATA.false,
       sym c.response_length-needed.ensures,
       lt-leb c.response_length-needed.result c.args.room c.if-needed-room.true,
@@ -59,9 +59,9 @@ pub returns : goal.returns
 unfolding wrap_response_checks require◌else◌⨾◌
 returns c =
     rw (
-      served_by_phase _ c.requires ∙ outcome _ c.is_open.ensures (not-false _ c.if-not-is_open.false),
-      outcome _ c.is_turn.ensures (not-false _ c.if-not-is_turn.false),
-      outcome _ c.status_permitted.ensures (not-false _ c.if-not-status_permitted.false),
+      served_by_phase _ c.requires ∙ outcome _ c.is_open.ensures c.if-not-is_open.false,
+      outcome _ c.is_turn.ensures c.if-not-is_turn.false,
+      outcome _ c.status_permitted.ensures c.if-not-status_permitted.false,
       le-leb c.args.n 16383 c.if-n-gt-MAX_RESPONSE_DATA.false,
       sym c.response_length-needed.ensures,
       le-leb c.response_length-needed.result c.args.room c.if-needed-room.false,
