@@ -22,7 +22,7 @@ returns-then-is_chained c =
     let n = c.lc.result in
     rw (
       ← c.lc.ensures.value,
-      le-leb 1 n c.if-lc-lt1.false,
+      le-leb _ _ c.if-lc-lt1.false,
       le-leb n 255 c.lc.ensures.byte,
       outcome _ c.is_chained.ensures c.if-is_chained.true,
     )

@@ -19,7 +19,7 @@ returns-then-p1-chain c =
     let a = c.args in
     rw (
       ne_eqb a.chain.len 0 c.if-chain-eq0.false,
-      eq-eqb a.ins a.chain.ins c.if-ins-chain.false,
+      eq-eqb _ _ c.if-ins-chain.false,
       ne_eqb a.p1 a.chain.p1 c.if-p1-chain.true,
     )
 
