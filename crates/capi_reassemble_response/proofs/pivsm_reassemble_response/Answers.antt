@@ -8,4 +8,4 @@ use Rattle.capi_reassemble_response.proofs.pivsm_reassemble_response.Goals as go
 pub returns : goal.returns
 returns c =
     let r = c.reassemble_response-result.ensures in
-    let v = c.response_reassembly_values-values.ensures ∙ ap (λ (x : ResponseReassembly). response_reassembly_values x.answer) r.result in record { call = λ i. left (v i).number (r.result i).chain.len (r.buffer i) (v i).len (v i).status; bytes = λ i l. (c.type_inv.apdu i).fits }
+    let v = c.response_reassembly_values-values.ensures ∙ ap (λ (x : ResponseReassembly). response_reassembly_values x.answer) r.result in record { call = λ i. left (v i).number (r.result i).chain.len (r.output i) (v i).len (v i).status; bytes = λ i l. (c.type_inv.apdu i).fits }
