@@ -47,7 +47,7 @@ returns c =
     c.add_word-2.ensures
     ∙ ap (add_word (get_or a.w.now (a.i - a.n) []))
     (elim c.if-n-gt6.branch [
-      then-n-gt6+else-m-eq4 w ↦ temp_other a.n a.i t c.if-m-eq0.false w.if-n-gt6.true w.if-m-eq4.false
-    | else-n-gt6 w ↦ temp_short a.n a.i t c.if-m-eq0.false w.if-n-gt6.false
+      | then-n-gt6+else-m-eq4 w ↦ temp_other a.n a.i t c.if-m-eq0.false w.if-n-gt6.true w.if-m-eq4.false
+      | else-n-gt6 w ↦ temp_short a.n a.i t c.if-m-eq0.false w.if-n-gt6.false
     ])
     ∙ next_sum a.n a.key.now a.w.now a.i c.if-i-n.false

@@ -15,7 +15,7 @@ returns c =
     let b = a.block.now in
     let l : length c.encrypt_block-result.result ≡ 16 = search rules in
     let m = block_done a.key.now b c.in-Of.size (sym c.key_size.ensures ∙ c.in-Of.is) c.if-block-ne16.false ciph
-        c.expanded-w.ensures c.block_at.ensures c.encrypt_block-result.ensures l c.put_bytes.ensures in
+    c.expanded-w.ensures c.block_at.ensures c.encrypt_block-result.ensures l c.put_bytes.ensures in
     record { answer = m.0; buffer = m.1 }
 
 pub returns-in_default : goal.returns-in_default
@@ -30,7 +30,7 @@ returns-then-block-ne16 c =
     let a = c.args in
     let b = a.block.now in
     let m = malformed a.key.now (block_long b) (λ s k. aes s k b) b c.in-Of.size (sym c.key_size.ensures ∙ c.in-Of.is)
-        (ne_eqb _ _ c.if-block-ne16.true) in
+    (ne_eqb _ _ c.if-block-ne16.true) in
     record { answer = m.0; buffer = m.1 }
 
 pub expanded-w-requires : goal.expanded-w-requires

@@ -20,7 +20,7 @@ unfolding aes
 returns-in-Done c =
     let a = c.args in
     let m = cbc_done a.key.now a.iv.now a.«data».now c.in-Of.size (sym c.key_size.ensures ∙ c.in-Of.is)
-        c.if-iv-ne16.false cbc c.expanded-w.ensures c.block_at.ensures c.encrypt.ensures.answer c.encrypt.ensures.buffer c.in-Done.is in
+    c.if-iv-ne16.false cbc c.expanded-w.ensures c.block_at.ensures c.encrypt.ensures.answer c.encrypt.ensures.buffer c.in-Done.is in
     record { answer = m.0; buffer = m.1 }
 
 pub returns-in-PartialBlock : goal.returns-in-PartialBlock
@@ -28,7 +28,7 @@ unfolding aes
 returns-in-PartialBlock c =
     let a = c.args in
     let m = cbc_partial a.key.now a.iv.now a.«data».now c.in-Of.size (sym c.key_size.ensures ∙ c.in-Of.is)
-        c.if-iv-ne16.false cbc c.expanded-w.ensures c.block_at.ensures c.encrypt.ensures.answer c.encrypt.ensures.buffer c.in-PartialBlock.is in
+    c.if-iv-ne16.false cbc c.expanded-w.ensures c.block_at.ensures c.encrypt.ensures.answer c.encrypt.ensures.buffer c.in-PartialBlock.is in
     record { answer = m.0; buffer = m.1 }
 
 pub returns-in_default : goal.returns-in_default
@@ -36,7 +36,7 @@ returns-in_default c =
     let a = c.args in
     let xs = a.«data».now in
     let m = bad_key a.key.now (block_long a.iv.now && whole xs) (λ s k. cbc_encrypt (aes s k) a.iv.now xs) xs
-        (sym c.key_size.ensures ∙ c.in_default.is) in
+    (sym c.key_size.ensures ∙ c.in_default.is) in
     record { answer = m.0; buffer = m.1 }
 
 pub returns-then-iv-ne16 : goal.returns-then-iv-ne16
@@ -44,7 +44,7 @@ returns-then-iv-ne16 c =
     let a = c.args in
     let xs = a.«data».now in
     let m = malformed a.key.now (block_long a.iv.now && whole xs) (λ s k. cbc_encrypt (aes s k) a.iv.now xs) xs
-        c.in-Of.size (sym c.key_size.ensures ∙ c.in-Of.is) (simp (ne_eqb _ _ c.if-iv-ne16.true)) in
+    c.in-Of.size (sym c.key_size.ensures ∙ c.in-Of.is) (simp (ne_eqb _ _ c.if-iv-ne16.true)) in
     record { answer = m.0; buffer = m.1 }
 
 pub expanded-w-requires : goal.expanded-w-requires
