@@ -1,13 +1,13 @@
 -- The bytes that a call leaves are read by the next one as the session that it left.
-use mathlib.Core.Path.{◌≡◌, sym, ap, subst, ◌∙◌}
+use mathlib.Core.Path.{◌≡◌, ap, subst, ◌∙◌}
 use mathlib.Core.Bool.{true}
 use mathlib.Core.List.{◌++◌}
-use Prim.Native.Nat.{ℕ, ◌+◌, ◌<◌, ◌≤◌}
+use Prim.Native.Nat.{◌≤◌}
 use native.Mathlib.Omega.{arith}
 use borrow.Author.Tests.{le-leb}
-use lib.ListN.{length, take, drop, length-take, length-append, get_or-append, take-append-drop}
-use lib.Seq.{take_at, get_or-append-add}
-use Rattle.octets.specs.Bytes.{Bytes, IsBytes}
+use lib.ListN.{length, take, drop, length-take}
+use lib.Seq.{take_at}
+use Rattle.octets.specs.Bytes.{IsBytes}
 use Rattle.octets.specs.Write.{over}
 use Rattle.session.specs.Arrays.{Arrays}
 use Rattle.session.specs.declared.Session.{Session}
@@ -16,7 +16,7 @@ use Rattle.session_bytes.specs.Saved.{session_size, header, keys, mcvs, encode, 
 use Rattle.session_bytes.specs.declared.Decoded.{Decoded}
 use Rattle.session_bytes.proofs.DecodeEncode.{decode_encode}
 use Rattle.message_answer.specs.Answer.{Out}
-use Rattle.capi_session.specs.SessionBytes.{Holder, Served, served_by, on_holder, Held, session_in, put_in}
+use Rattle.capi_session.specs.SessionBytes.{Holder, served_by, on_holder, Held, session_in, put_in}
 use Rattle.octets.proofs.ByteStrings.{bytes_left, bytes_right, bytes_taken}
 use Rattle.session_bytes.specs.Lengths.{Lengths}
 use Rattle.session_bytes.proofs.SessionLengths.{encode_long}

@@ -4,7 +4,7 @@ use mathlib.Core.Path.{◌≡◌, refl}
 use mathlib.Core.Bool.{Bool, false}
 use mathlib.Core.List.{[]}
 use Prim.Native.Nat.{ℕ}
-use denote.Ref.{Bor}
+use denote.Ref.{Bor, MutBor, at_last}
 use Rattle.octets.specs.Bytes.{Bytes, IsBytes}
 use Rattle.session_suite.specs.StoredKeys.{KeysOfBytes, keys}
 use Rattle.capi_open.specs.Call as Open
@@ -19,6 +19,10 @@ use Rattle.demand_capi.specs.Calls.{OpensHost, open_host_given, OpensCard, open_
 abbrev to : {X : Type 0} → X → Bor X
 to x = record { ref_ptr = (0, 0); now = x }
 
+-- the same of a reference that may be written through
+abbrev lent : {X : Type 0} → X → MutBor X
+lent x = record { ref_ptr = (0, 0); ghost_name = 0; now = x }
+
 module _ (suite : ℕ) (enc mac rmac session : Bytes) (len : ℕ) (b : KeysOfBytes (keys enc mac rmac)) where
   abbrev given-opening : Open.Given
   given-opening = Open.given suite enc mac rmac session
@@ -28,9 +32,9 @@ module _ (suite : ℕ) (enc mac rmac session : Bytes) (len : ℕ) (b : KeysOfByt
       let l = Open.pivsm_open_host given-opening in
       record {
         κs = ([], ([], ([], ([], ([], tt)))));
-        args = (suite, (to enc, (to mac, (to rmac, (to session, (to len, tt))))));
+        args = (suite, (to enc, (to mac, (to rmac, (lent session, (lent len, tt))))));
         result = l.number;
-        exit = (suite, (to enc, (to mac, (to rmac, (to l.session, (to l.len, tt))))));
+        exit = (suite, (to enc, (to mac, (to rmac, (at_last (lent session) l.session, (at_last (lent len) l.len, tt))))));
         met = (refl, b);
       }
 
@@ -39,9 +43,9 @@ module _ (suite : ℕ) (enc mac rmac session : Bytes) (len : ℕ) (b : KeysOfByt
       let l = Open.pivsm_open_card given-opening in
       record {
         κs = ([], ([], ([], ([], ([], tt)))));
-        args = (suite, (to enc, (to mac, (to rmac, (to session, (to len, tt))))));
+        args = (suite, (to enc, (to mac, (to rmac, (lent session, (lent len, tt))))));
         result = l.number;
-        exit = (suite, (to enc, (to mac, (to rmac, (to l.session, (to l.len, tt))))));
+        exit = (suite, (to enc, (to mac, (to rmac, (at_last (lent session) l.session, (at_last (lent len) l.len, tt))))));
         met = (refl, b);
       }
 
@@ -57,9 +61,9 @@ module _ (session : Bytes) (len : ℕ) (b : IsBytes session) where
       let l = Close.pivsm_close (Close.given session len) in
       record {
         κs = ([], ([], tt));
-        args = (to session, (to len, tt));
+        args = (lent session, (lent len, tt));
         result = l.number;
-        exit = (to l.held.bytes, (to l.held.len, tt));
+        exit = (at_last (lent session) l.held.bytes, (at_last (lent len) l.held.len, tt));
         met = (refl, b);
       }
 
@@ -72,9 +76,9 @@ module _ (session : Bytes) (len : ℕ) (b : IsBytes session) where
         let l = WrapCommand.pivsm_wrap_command (WrapCommand.given session len ins p1 p2 le payload field) in
         record {
           κs = ([], ([], ([], ([], ([], tt)))));
-          args = (to session, (to len, (ins, (p1, (p2, (le, (to payload, (to field, (to 0, tt)))))))));
+          args = (lent session, (lent len, (ins, (p1, (p2, (le, (to payload, (lent field, (lent 0, tt)))))))));
           result = l.number;
-          exit = (to l.held.bytes, (to l.held.len, (ins, (p1, (p2, (le, (to payload, (to l.field, (to l.written, tt)))))))));
+          exit = (at_last (lent session) l.held.bytes, (at_last (lent len) l.held.len, (ins, (p1, (p2, (le, (to payload, (at_last (lent field) l.field, (at_last (lent 0) l.written, tt)))))))));
           met = (refl, (b, d));
         }
 
@@ -87,9 +91,9 @@ module _ (session : Bytes) (len : ℕ) (b : IsBytes session) where
         let l = UnwrapCommand.pivsm_unwrap_command (UnwrapCommand.given session len ins p1 p2 field payload) in
         record {
           κs = ([], ([], ([], ([], ([], ([], tt))))));
-          args = (to session, (to len, (ins, (p1, (p2, (to field, (to payload, (to 0, (to false, tt)))))))));
+          args = (lent session, (lent len, (ins, (p1, (p2, (to field, (lent payload, (lent 0, (lent false, tt)))))))));
           result = l.number;
-          exit = (to l.held.bytes, (to l.held.len, (ins, (p1, (p2, (to field, (to l.payload, (to l.written, (to l.le, tt)))))))));
+          exit = (at_last (lent session) l.held.bytes, (at_last (lent len) l.held.len, (ins, (p1, (p2, (to field, (at_last (lent payload) l.payload, (at_last (lent 0) l.written, (at_last (lent false) l.le, tt)))))))));
           met = (refl, b);
         }
 
@@ -102,9 +106,9 @@ module _ (session : Bytes) (len : ℕ) (b : IsBytes session) where
         let l = WrapResponse.pivsm_wrap_response (WrapResponse.given session len sw payload field) in
         record {
           κs = ([], ([], ([], ([], ([], tt)))));
-          args = (to session, (to len, (sw, (to payload, (to field, (to 0, tt))))));
+          args = (lent session, (lent len, (sw, (to payload, (lent field, (lent 0, tt))))));
           result = l.number;
-          exit = (to l.held.bytes, (to l.held.len, (sw, (to payload, (to l.field, (to l.written, tt))))));
+          exit = (at_last (lent session) l.held.bytes, (at_last (lent len) l.held.len, (sw, (to payload, (at_last (lent field) l.field, (at_last (lent 0) l.written, tt))))));
           met = (refl, (b, d));
         }
 
@@ -117,9 +121,9 @@ module _ (session : Bytes) (len : ℕ) (b : IsBytes session) where
         let l = UnwrapResponse.pivsm_unwrap_response (UnwrapResponse.given session len sw field payload) in
         record {
           κs = ([], ([], ([], ([], ([], ([], tt))))));
-          args = (to session, (to len, (sw, (to field, (to payload, (to 0, (to 0, tt)))))));
+          args = (lent session, (lent len, (sw, (to field, (lent payload, (lent 0, (lent 0, tt)))))));
           result = l.number;
-          exit = (to l.held.bytes, (to l.held.len, (sw, (to field, (to l.payload, (to l.written, (to l.status, tt)))))));
+          exit = (at_last (lent session) l.held.bytes, (at_last (lent len) l.held.len, (sw, (to field, (at_last (lent payload) l.payload, (at_last (lent 0) l.written, (at_last (lent 0) l.status, tt)))))));
           met = (refl, b);
         }
 

@@ -1,7 +1,7 @@
 -- The calls from C as calls of the functions below them, with the same arguments: those of demand_chaining.
 use mathlib.Core.Path.{refl}
 use mathlib.Core.List.{[]}
-use denote.Ref.{Bor}
+use denote.Ref.{Bor, MutBor, at_last}
 use Rattle.octets.specs.Bytes.{Bytes}
 use Rattle.message_answer.specs.Answer.{buffer}
 use Rattle.chain_command.specs.Fragment.{fragment_answer}
@@ -19,15 +19,19 @@ use Rattle.demand_chaining.specs.Calls.{FragmentsCommand, ReassemblesCommand, Fr
 abbrev pub to : {X : Type 0} → X → Bor X
 to x = record { ref_ptr = (0, 0); now = x }
 
+-- the same of a reference that may be written through
+abbrev pub lent : {X : Type 0} → X → MutBor X
+lent x = record { ref_ptr = (0, 0); ghost_name = 0; now = x }
+
 abbrev pub fragments_command_below : FragmentCommand.Given → FragmentsCommand
 fragments_command_below g =
     let a = FragmentCommand.fragmented g in
     let h = g.header in
     record {
       κs = ([], ([], tt));
-      args = (h.ins, (h.p1, (h.p2, (to g.field, (g.size, (g.number, (to g.apdu, tt)))))));
+      args = (h.ins, (h.p1, (h.p2, (to g.field, (g.size, (g.number, (lent g.apdu, tt)))))));
       result = fragment_answer a;
-      exit = (h.ins, (h.p1, (h.p2, (to g.field, (g.size, (g.number, (to (buffer (λ (b : Bytes). b) g.apdu a), tt)))))));
+      exit = (h.ins, (h.p1, (h.p2, (to g.field, (g.size, (g.number, (at_last (lent g.apdu) (buffer (λ (b : Bytes). b) g.apdu a), tt)))))));
       met = (refl, refl);
     }
 
@@ -36,9 +40,9 @@ reassembles_command_below g =
     let c = chain_of g.chain in
     record {
       κs = ([], ([], tt));
-      args = (c, (to g.apdu, (to g.field, tt)));
+      args = (c, (to g.apdu, (lent g.field, tt)));
       result = ReassembleCommand.reassembled c g;
-      exit = (c, (to g.apdu, (to (reassembly_buffer c g.apdu g.field), tt)));
+      exit = (c, (to g.apdu, (at_last (lent g.field) (reassembly_buffer c g.apdu g.field), tt)));
       met = (refl, refl);
     }
 
@@ -48,9 +52,9 @@ fragments_response_below g =
     let sw = g.status in
     record {
       κs = ([], ([], tt));
-      args = (sw.sw1, (sw.sw2, (to g.field, (g.at, (g.le, (to g.apdu, tt))))));
+      args = (sw.sw1, (sw.sw2, (to g.field, (g.at, (g.le, (lent g.apdu, tt))))));
       result = responseFragmentAnswer (next g.field g.at g.le) a;
-      exit = (sw.sw1, (sw.sw2, (to g.field, (g.at, (g.le, (to (buffer (λ (b : Bytes). b) g.apdu a), tt))))));
+      exit = (sw.sw1, (sw.sw2, (to g.field, (g.at, (g.le, (at_last (lent g.apdu) (buffer (λ (b : Bytes). b) g.apdu a), tt))))));
       met = (refl, refl);
     }
 
@@ -59,8 +63,8 @@ reassembles_response_below g =
     let c = chain g.chain in
     record {
       κs = ([], ([], tt));
-      args = (c, (to g.apdu, (to g.field, tt)));
+      args = (c, (to g.apdu, (lent g.field, tt)));
       result = ReassembleResponse.reassembled g;
-      exit = (c, (to g.apdu, (to (responseBuffer c g.apdu g.field), tt)));
+      exit = (c, (to g.apdu, (at_last (lent g.field) (responseBuffer c g.apdu g.field), tt)));
       met = (refl, refl);
     }

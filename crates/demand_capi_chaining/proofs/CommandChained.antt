@@ -127,11 +127,11 @@ all_told (r ∷ rs) = ap₂ (λ (x : Values) (l : List Values). x ∷ l) (told_s
 chain_after_lem : (n : ℕ) (c : CommandChain) (rs : List ReassemblesCommand) → n ≡ chain_number c
     → chain_after n rs ≡ chain_number (Below.chain_after c (map reassemble_below rs))
 chain_after_lem n c [] e = e
-chain_after_lem n c (r ∷ rs) e = chain_after_lem _ _ rs (number_same r)
+chain_after_lem n c (r ∷ rs) e = chain_after_lem (reassemble_command_left r).chain (reassemble_below r).result.chain rs (number_same r)
 
 buffer_after_lem : (held out : Bytes) (rs : List ReassemblesCommand) → held ≡ out → buffer_after held rs ≡ Below.buffer_after out (map reassemble_below rs)
 buffer_after_lem held out [] e = e
-buffer_after_lem held out (r ∷ rs) e = buffer_after_lem _ _ rs (field_same r)
+buffer_after_lem held out (r ∷ rs) e = buffer_after_lem (reassemble_command_left r).field (BelowCalls.field_after (reassemble_below r)) rs (field_same r)
 
 none : chain_of 0 ≡ empty
 unfolding chain_of

@@ -10,7 +10,8 @@ use Rattle.capi_fragment_response.specs.Call as FragmentResponse
 use Rattle.capi_reassemble_response.specs.Call as ReassembleResponse
 use Rattle.capi_get_response.specs.Call as GetResponse
 use Rattle.demand_capi_chaining.specs.Calls.{FragmentsCommand, fragment_command_given, ReassemblesCommand, reassemble_command_given, FragmentsResponse, fragment_response_given, ReassemblesResponse, reassemble_response_given, GetsResponse, get_response_given}
-use Rattle.demand_capi_chaining.proofs.Below.{to}
+use denote.Ref.{at_last}
+use Rattle.demand_capi_chaining.proofs.Below.{to, lent}
 
 module _ (ins p1 p2 : ℕ) (field : Bytes) (size number : ℕ) (apdu : Bytes) where
   abbrev pub fragments-command : FragmentsCommand
@@ -18,9 +19,9 @@ module _ (ins p1 p2 : ℕ) (field : Bytes) (size number : ℕ) (apdu : Bytes) wh
       let l = FragmentCommand.pivsm_fragment_command (FragmentCommand.given ins p1 p2 field size number apdu) in
       record {
         κs = ([], ([], ([], tt)));
-        args = (ins, (p1, (p2, (to field, (size, (number, (to apdu, (to 0, tt))))))));
+        args = (ins, (p1, (p2, (to field, (size, (number, (lent apdu, (lent 0, tt))))))));
         result = l.number;
-        exit = (ins, (p1, (p2, (to field, (size, (number, (to l.apdu, (to l.written, tt))))))));
+        exit = (ins, (p1, (p2, (to field, (size, (number, (at_last (lent apdu) l.apdu, (at_last (lent 0) l.written, tt))))))));
         met = refl;
       }
 
@@ -33,9 +34,9 @@ module _ (chain : ℕ) (apdu field : Bytes) (b : IsBytes apdu) where
       let l = ReassembleCommand.pivsm_reassemble_command (ReassembleCommand.given chain apdu field) in
       record {
         κs = ([], ([], ([], ([], ([], ([], ([], ([], tt))))))));
-        args = (to chain, (to apdu, (to field, (to 0, (to 0, (to 0, (to 0, (to 0, tt))))))));
+        args = (lent chain, (to apdu, (lent field, (lent 0, (lent 0, (lent 0, (lent 0, (lent 0, tt))))))));
         result = l.number;
-        exit = (to l.chain, (to apdu, (to l.field, (to l.written, (to l.sw, (to l.ins, (to l.p1, (to l.p2, tt))))))));
+        exit = (at_last (lent chain) l.chain, (to apdu, (at_last (lent field) l.field, (at_last (lent 0) l.written, (at_last (lent 0) l.sw, (at_last (lent 0) l.ins, (at_last (lent 0) l.p1, (at_last (lent 0) l.p2, tt))))))));
         met = (refl, b);
       }
 
@@ -47,9 +48,9 @@ module _ (chain : ℕ) (apdu field : Bytes) (b : IsBytes apdu) where
       let l = ReassembleResponse.pivsm_reassemble_response (ReassembleResponse.given chain apdu field) in
       record {
         κs = ([], ([], ([], ([], ([], tt)))));
-        args = (to chain, (to apdu, (to field, (to 0, (to 0, tt)))));
+        args = (lent chain, (to apdu, (lent field, (lent 0, (lent 0, tt)))));
         result = l.number;
-        exit = (to l.chain, (to apdu, (to l.field, (to l.written, (to l.sw, tt)))));
+        exit = (at_last (lent chain) l.chain, (to apdu, (at_last (lent field) l.field, (at_last (lent 0) l.written, (at_last (lent 0) l.sw, tt)))));
         met = (refl, b);
       }
 
@@ -62,9 +63,9 @@ module _ (sw : ℕ) (field : Bytes) (at le : ℕ) (apdu : Bytes) where
       let l = FragmentResponse.pivsm_fragment_response (FragmentResponse.given sw field at le apdu) in
       record {
         κs = ([], ([], ([], ([], tt))));
-        args = (sw, (to field, (at, (le, (to apdu, (to 0, (to 0, tt)))))));
+        args = (sw, (to field, (at, (le, (lent apdu, (lent 0, (lent 0, tt)))))));
         result = l.number;
-        exit = (sw, (to field, (at, (le, (to l.apdu, (to l.written, (to l.next, tt)))))));
+        exit = (sw, (to field, (at, (le, (at_last (lent apdu) l.apdu, (at_last (lent 0) l.written, (at_last (lent 0) l.next, tt)))))));
         met = refl;
       }
 
@@ -77,9 +78,9 @@ module _ (le : ℕ) (apdu : Bytes) where
       let l = GetResponse.pivsm_get_response (GetResponse.given le apdu) in
       record {
         κs = ([], ([], tt));
-        args = (le, (to apdu, (to 0, tt)));
+        args = (le, (lent apdu, (lent 0, tt)));
         result = l.number;
-        exit = (le, (to l.apdu, (to l.written, tt)));
+        exit = (le, (at_last (lent apdu) l.apdu, (at_last (lent 0) l.written, tt)));
         met = refl;
       }
 

@@ -118,7 +118,8 @@ module _ (sw : StatusWord) (field : Bytes) where
           t.0.2 ∙ g,
           t.0.3 ∙ s.0,
         ),
-        handed_below _ _ _ _ _ _ _ _ fs rs s.1 (le_same r) (chain_same r) (field_same r) t.1,
+        handed_below (fragment_response_left f).next (le_after (reassemble_response_left r)) (reassemble_response_left r).chain
+            (reassemble_response_left r).field _ _ _ _ fs rs s.1 (le_same r) (chain_same r) (field_same r) t.1,
       )
 
 told_in : (a : ResponseReassemblyAnswer) (r : ResponseReassembly) (field : Bytes) → r.answer ≡ a
@@ -141,11 +142,11 @@ all_told (r ∷ rs) = ap₂ (λ (x : Values) (l : List Values). x ∷ l) (told_s
 chain_after_lem : (n : ℕ) (c : ResponseChain) (rs : List ReassemblesResponse) → chain n ≡ c
     → chain (chain_after n rs) ≡ Below.chain_after c (map reassemble_below rs)
 chain_after_lem n c [] e = e
-chain_after_lem n c (r ∷ rs) e = chain_after_lem _ _ rs (chain_same r)
+chain_after_lem n c (r ∷ rs) e = chain_after_lem (reassemble_response_left r).chain (reassemble_below r).result.chain rs (chain_same r)
 
 buffer_after_lem : (held out : Bytes) (rs : List ReassemblesResponse) → held ≡ out → buffer_after held rs ≡ Below.buffer_after out (map reassemble_below rs)
 buffer_after_lem held out [] e = e
-buffer_after_lem held out (r ∷ rs) e = buffer_after_lem _ _ rs (field_same r)
+buffer_after_lem held out (r ∷ rs) e = buffer_after_lem (reassemble_response_left r).field (BelowCalls.response_field_after (reassemble_below r)) rs (field_same r)
 
 pub reassembles_responses : ReassemblesResponses
 reassembles_responses sw field held fs rs permitted some short fits count handed =

@@ -2,7 +2,6 @@
 // (rules 1.3 to 1.5).
 #![tactic(auto)]
 
-
 pub const MAX_COMMAND_DATA: usize = 2047;
 
 pub const MAX_RESPONSE_DATA: usize = 16383;

@@ -41,7 +41,7 @@ use Rattle.message_ciphers.specs.Aes.{aes_ciphers}
 use Rattle.message_answer.specs.Message.{CommandHeader, Command, Response, max_command_data, max_response_data, command_limit}
 use Rattle.message_permission.specs.Permission.{ins_permitted, data_need, le_need, command_permitted, status_permitted, command_wanted, response_wanted}
 use Rattle.message_counter.specs.Counter.{command_counter, response_counter}
-use Rattle.message_answer.specs.Answer.{Answer, gave, require◌else◌⨾◌, ◌and_then◌, concluded}
+use Rattle.message_answer.specs.Answer.{gave, require◌else◌⨾◌, ◌and_then◌, concluded}
 use Rattle.message_answer.proofs.Required.{pass}
 use Rattle.message_verify.specs.Reading.{objects_of}
 use Rattle.message_verify.specs.VerifiedText.{received_in, verified_text}

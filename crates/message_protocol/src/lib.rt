@@ -1,3 +1,2 @@
 // The four calls as definitions, and the demands about them. No code.
 #![tactic(auto)]
-

@@ -1,3 +1,2 @@
 // Runs of the protocol that the checker computes, with ciphers small enough for that. No code.
 #![tactic(auto)]
-

@@ -1,5 +1,5 @@
 -- An unwrap is these stages and then what it accepts: its result and its buffer, from what the stages answered. For the two unwraps.
-use mathlib.Core.Path.{◌≡◌, refl, sym, ap, ◌∙◌}
+use mathlib.Core.Path.{◌≡◌, sym, ap, ◌∙◌}
 use Prim.Native.Nat.{ℕ}
 use native.Mathlib.Omega.{arith}
 use lib.ListN.{length}

@@ -7,7 +7,7 @@ use lib.ListN.{length, length-append, length-replicate}
 use Rattle.octets.specs.Bytes.{Bytes, IsBytes, zeros}
 use Rattle.octets.proofs.ByteStrings.{bytes_append, bytes_zeros}
 use Rattle.session_suite.specs.Suites.{key_length, suite_of}
-use Rattle.session.specs.Session.{closed, closed_at}
+use Rattle.session.specs.Session.{closed_at}
 use Rattle.session_suite.specs.StoredKeys.{stored, Keys, keys_fit, KeysOfBytes}
 use Rattle.session.specs.Opening.{open_suite, opening}
 use Rattle.session.specs.Arrays.{Block, Arrays}
@@ -15,7 +15,6 @@ use Rattle.session.specs.declared.Side.{Side}
 use Rattle.session_suite.specs.declared.Suite.{Suite}
 use Rattle.session_suite.specs.declared.SuiteNumber.{SuiteNumber}
 use Rattle.session_suite.specs.declared.SuiteNumber.TheVariants.{Known, Unknown}
-use Rattle.session.specs.declared.Session.{Session}
 use Rattle.session_suite.proofs.StoredKeys.{key_length_most, fitting}
 
 zero_block : (n : ℕ) → Block n (zeros n)

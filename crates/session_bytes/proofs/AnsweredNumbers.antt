@@ -1,6 +1,6 @@
 -- Which numbers saving and reading answer with: 1 for a session that breaks the rules, then 6 with the size needed, else 0 with the size;
 -- 0 with the session, or 16 and no session.
-use mathlib.Core.Path.{◌≡◌, refl, sym, ap, ◌∙◌}
+use mathlib.Core.Path.{◌≡◌, refl}
 use mathlib.Core.Bool.{Bool, true, false}
 use mathlib.Core.Logic.{◌⊎◌, inl, inr}
 use Prim.Native.Nat.{ℕ}

@@ -1,5 +1,5 @@
 -- Rule 8.1: a session as 138 bytes, and back. Numbers are big-endian.
-use Rattle.std.specs.Prelude.{Bool, ◌&&◌, [], ◌∷◌, ◌++◌, ℕ, ◌-◌, eqb, leb, length, get_or, take, drop}
+use Rattle.std.specs.Prelude.{Bool, ◌&&◌, ◌∷◌, ◌++◌, ℕ, ◌-◌, eqb, leb, length, get_or, take, drop}
 use Rattle.octets.specs.Bytes.{Bytes}
 use Rattle.std.specs.Prelude.{if◌then◌else◌}
 use Rattle.octets_numbers.specs.BigEndian.{big_endian, number_in}

@@ -1,7 +1,6 @@
 -- `replace_session` meets its contract: nothing is written, or all the bytes of a session and their number.
 use native.Mathlib.Omega.{arith}
 use borrow.Author.Rules.{rules}
-use borrow.Author.Tests.{not-true, not-false}
 use mathlib.Core.Path.{◌≡◌, refl}
 use Rattle.octets.proofs.Tests.{outcome}
 use Rattle.octets.proofs.Writing.{wrote_all}

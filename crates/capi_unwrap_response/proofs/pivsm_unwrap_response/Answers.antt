@@ -43,15 +43,21 @@ unfolding host_unwraps
 returns-in-Decoded c =
     let a = c.args in
     let g = given a.session.now a.len.now a.sw a.field.now a.payload.now in
-    let r = c.unwrap_response_with_valid_session-result.ensures in record { call = left_is _ _ _ _ _
+    let r = c.unwrap_response_with_valid_session-result.ensures in record {
+      call = left_is _ _ _ _ _
           (was_replaced (λ x. response_values (response_answer x)) (λ m. m.payload) g.payload g.held (call g) _
           c.session_in-decoded.ensures.decoded c.in-Decoded.is c.session_in-decoded.ensures.bytes _ refl response_number _ _ _ _
           (c.response_values-values.ensures ∙ ap (λ (x : ResponseResult). response_values x.answer) r.result)
-          (ap (λ (x : ResponseResult). x.session) r.result) c.replace_session.ensures r.output); bytes = c.session_in-decoded.ensures.bytes }
+          (ap (λ (x : ResponseResult). x.session) r.result) c.replace_session.ensures r.output);
+      bytes = c.session_in-decoded.ensures.bytes;
+    }
 
 pub returns-in-Refused : goal.returns-in-Refused
 returns-in-Refused c =
     let a = c.args in
-    let g = given a.session.now a.len.now a.sw a.field.now a.payload.now in record { call = left_is _ _ _ _ _
+    let g = given a.session.now a.len.now a.sw a.field.now a.payload.now in record {
+      call = left_is _ _ _ _ _
           (was_not_read (λ x. response_values (response_answer x)) (λ m. m.payload) g.payload g.held (call g) _
-          c.session_in-decoded.ensures.decoded _ c.in-Refused.is _ c.refusal_values-values.ensures); bytes = c.session_in-decoded.ensures.bytes }
+          c.session_in-decoded.ensures.decoded _ c.in-Refused.is _ c.refusal_values-values.ensures);
+      bytes = c.session_in-decoded.ensures.bytes;
+    }

@@ -1,7 +1,6 @@
 -- `fragment_values` meets its contract: a length, or a refusal.
 use mathlib.Core.Path.{sym, ap, ◌∙◌}
 use Rattle.capi_values.specs.ChainingValues.{fragment_values}
-use Rattle.capi_values.specs.Values.{given}
 use Rattle.capi_values.proofs.fragment_values.Goals as goal
 
 pub returns-in-Fragment : goal.returns-in-Fragment

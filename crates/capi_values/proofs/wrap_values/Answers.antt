@@ -1,6 +1,6 @@
 -- `wrap_values` meets its contract: a length, or a refusal.
 use mathlib.Core.Path.{sym, ap, ◌∙◌}
-use Rattle.capi_values.specs.Values.{given, wrap_values}
+use Rattle.capi_values.specs.Values.{wrap_values}
 use Rattle.capi_values.proofs.wrap_values.Goals as goal
 
 pub returns-in-Wrapped : goal.returns-in-Wrapped

@@ -42,15 +42,21 @@ unfolding card_wraps
 returns-in-Decoded c =
     let a = c.args in
     let g = given a.session.now a.len.now a.sw a.payload.now a.field.now in
-    let r = c.wrap_response_with_valid_session-result.ensures in record { call = left_is _ _ _ _ _
+    let r = c.wrap_response_with_valid_session-result.ensures in record {
+      call = left_is _ _ _ _ _
           (was_replaced (λ x. wrap_values (wrap_answer x)) (λ (bytes : Bytes). bytes) g.field g.held (call g) _
           c.session_in-decoded.ensures.decoded c.in-Decoded.is c.session_in-decoded.ensures.bytes _ refl wrap_number _ _ _ _
           (c.wrap_values-values.ensures ∙ ap (λ (x : WrapResult). wrap_values x.answer) r.result)
-          (ap (λ (x : WrapResult). x.session) r.result) c.replace_session.ensures r.output); bytes = (c.session_in-decoded.ensures.bytes, r.bytes) }
+          (ap (λ (x : WrapResult). x.session) r.result) c.replace_session.ensures r.output);
+      bytes = (c.session_in-decoded.ensures.bytes, r.bytes);
+    }
 
 pub returns-in-Refused : goal.returns-in-Refused
 returns-in-Refused c =
     let a = c.args in
-    let g = given a.session.now a.len.now a.sw a.payload.now a.field.now in record { call = left_is _ _ _ _ _
+    let g = given a.session.now a.len.now a.sw a.payload.now a.field.now in record {
+      call = left_is _ _ _ _ _
           (was_not_read (λ x. wrap_values (wrap_answer x)) (λ (bytes : Bytes). bytes) g.field g.held (call g) _
-          c.session_in-decoded.ensures.decoded _ c.in-Refused.is _ c.refusal_values-values.ensures); bytes = (c.session_in-decoded.ensures.bytes, λ i l. (c.type_inv.payload i).fits) }
+          c.session_in-decoded.ensures.decoded _ c.in-Refused.is _ c.refusal_values-values.ensures);
+      bytes = (c.session_in-decoded.ensures.bytes, λ i l. (c.type_inv.payload i).fits);
+    }

@@ -7,7 +7,7 @@ use Rattle.message_permission.specs.Permission.{command_wanted}
 use Rattle.message_result.specs.Results.{command_result}
 use Rattle.message_result.proofs.StageEnds.{stage_goes_on, stage_refused}
 use Rattle.message_verify.proofs.Stages.{when_read, when_malformed, when_missing}
-use Rattle.message_unwrap_command.specs.UnwrapCommand.{open_objects, payload_of}
+use Rattle.message_unwrap_command.specs.UnwrapCommand.{payload_of}
 use Rattle.message_unwrap_command.proofs.read_command.Goals as goal
 
 pub open_objects-requires : goal.open_objects-requires

@@ -8,7 +8,7 @@ use Rattle.message_permission.specs.Permission.{response_wanted}
 use Rattle.message_result.specs.Results.{response_result}
 use Rattle.message_result.proofs.StageEnds.{stage_goes_on, stage_refused}
 use Rattle.message_verify.proofs.Stages.{when_read, when_malformed, when_missing}
-use Rattle.message_unwrap_response.specs.UnwrapResponse.{open_objects, payload_of}
+use Rattle.message_unwrap_response.specs.UnwrapResponse.{payload_of}
 use Rattle.message_unwrap_response.proofs.read_response.Goals as goal
 
 pub open_objects-requires : goal.open_objects-requires

@@ -1,5 +1,4 @@
 -- `unwrap_response` meets its contract: a session that breaks the rules counts as closed.
-use borrow.Author.Tests.{not-true, not-false}
 use Rattle.octets.proofs.Tests.{outcome}
 use Rattle.session_rules.proofs.KeepsTheRules.{broken_not_served}
 use Rattle.message_answer.proofs.Required.{first_refused}

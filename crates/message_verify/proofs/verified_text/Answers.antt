@@ -1,5 +1,4 @@
 -- `verified_text` meets its contract: room, then the MAC, then the text, then the caller's buffer.
-use borrow.Author.Tests.{not-true, not-false}
 use mathlib.Core.Path.{ap, ◌∙◌}
 use Rattle.octets.proofs.Tests.{outcome}
 use Rattle.session_suite.specs.StoredKeys.{key_in}

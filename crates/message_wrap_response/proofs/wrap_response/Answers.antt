@@ -1,6 +1,5 @@
 -- `wrap_response` meets its contract: a session that breaks the rules counts as closed.
 use borrow.Author.Rules.{rules}
-use borrow.Author.Tests.{not-true, not-false}
 use mir.Syntax.{w8}
 use mir.Val.{Fits}
 use lib.ListN.{get_or}

@@ -12,19 +12,25 @@ use Rattle.session_bytes.proofs.encode.Goals as goal
 pub returns-then-out-ge-SIZE : goal.returns-then-out-ge-SIZE
 unfolding encoding encoded_in
 returns-then-out-ge-SIZE c =
-    let a = c.args in record { answer = rw (
+    let a = c.args in record {
+      answer = rw (
         outcome (valid a.session) c.valid.ensures
             c.if-valid.true,
         le-leb session_size (length a.out.now) c.if-out-ge-SIZE.true,
-      ); output = wrote_all c.put_session.ensures }
+      );
+      output = wrote_all c.put_session.ensures;
+    }
 
 pub returns-then-valid : goal.returns-then-valid
 unfolding encoding encoded_in
 returns-then-valid c =
-    let a = c.args in record { answer = rw (
+    let a = c.args in record {
+      answer = rw (
         outcome (valid a.session) c.valid.ensures c.if-valid.true,
         lt-leb session_size (length a.out.now) c.if-out-ge-SIZE.false,
-      ); output = refl }
+      );
+      output = refl;
+    }
 
 pub returns : goal.returns
 unfolding encoding encoded_in

@@ -12,7 +12,7 @@ returns-then-session-eq1 c =
     rw (
       outcome (keys_end s) c.keys_end.ensures
           c.if-keys_end.true,
-      le-leb 1 s.count c.if-session-ge1.true,
+      le-leb _ _ c.if-session-ge1.true,
       eq-eqb s.count 1 c.if-session-eq1.true,
     ) c.all_zero.ensures
 

@@ -5,7 +5,7 @@ use lib.ListN.{length, length-set}
 use Rattle.test_damaged_fields.proofs.changed.Goals as goal
 
 pub loop-at-smaller : goal.loop-at-smaller
-loop-at-smaller c = simp length-set (omega arith)
+loop-at-smaller g c = simp length-set (omega arith)
 
 pub loop-at-preserved : goal.loop-at-preserved
-loop-at-preserved c = (simp length-set (omega arith), simp length-set (omega arith))
+loop-at-preserved g c = (simp length-set (omega arith), simp length-set (omega arith))

@@ -7,4 +7,4 @@ use lib.Seq.{length-take-le}
 use Rattle.test_damaged_fields.proofs.cut_off.Goals as goal
 
 pub slice_bounds-read_field-end : goal.slice_bounds-read_field-end
-slice_bounds-read_field-end c = sym (length-take-le c.loop-n.n c.args.field.now (omega arith))
+slice_bounds-read_field-end g c = sym (length-take-le c.loop-n.n c.args.field.now (omega arith))

@@ -3,7 +3,7 @@ use Prim.Native.Nat.{◌≤◌, ◌-◌, ◌<◌}
 use Rattle.test_vectors_fips197.proofs.inv_cipher.Given as goal
 
 abbrev pub invariant-loop-round : goal.invariant-loop-round
-invariant-loop-round l = (0 < l.round) × (l.round ≤ l.rounds)
+invariant-loop-round g l = (0 < l.round) × (l.round ≤ l.rounds)
 
 abbrev pub decreases-loop-round : goal.decreases-loop-round
-decreases-loop-round l = l.rounds - l.round
+decreases-loop-round g l = l.rounds - l.round

@@ -1,5 +1,5 @@
 -- `unwrap_command_checks` meets its contract: one test after the other.
-use borrow.Author.Tests.{not-true, not-false, lt-leb, le-leb, lt-ltb, le-ltb}
+use borrow.Author.Tests.{lt-leb, le-leb, lt-ltb, le-ltb}
 use mathlib.Core.Path.{◌∙◌}
 use Rattle.octets.proofs.Tests.{outcome}
 use Rattle.session_rules.proofs.KeepsTheRules.{served_by_phase}

@@ -5,4 +5,4 @@ use lib.Seq.{length-take-le}
 use Rattle.test_damaged_fields.proofs.made.whole.Goals as goal
 
 pub slice_bounds-command-end : goal.slice_bounds-command-end
-slice_bounds-command-end c = sym (length-take-le c.put_bytes-end.result c.put_bytes-end.new.out (omega arith))
+slice_bounds-command-end g c = sym (length-take-le c.put_bytes-end.result c.put_bytes-end.new.out (omega arith))
