@@ -1,7 +1,6 @@
 -- The IV is the counter under the same key: one block of each direction, written out for every key and counter.
 use mathlib.Core.Path.{◌≡◌, refl}
 use mathlib.Core.List.{[], ◌∷◌, ◌++◌}
-use mathlib.Core.Option.{Option}
 use Rattle.octets.specs.Bytes.{Bytes, zeros, ◌xor◌}
 use Rattle.field_padding.specs.Padding.{padded_length, padding, pad, unpad}
 use Rattle.mode_cbc.specs.Cbc.{blocks, joined, encrypt_blocks, decrypt_blocks, cbc_encrypt, cbc_decrypt}

@@ -1,7 +1,6 @@
 -- `middle_rounds` meets its contract: before each turn x is the State after `round` rounds.
 use borrow.Author.Rules.{rules}
 use mathlib.Core.Path.{◌≡◌, refl}
-use Prim.Native.Nat.{◌-◌}
 use native.Mathlib.Omega.{arith}
 use Rattle.aes_sbox.specs.SBox.{s_box}
 use Rattle.aes.specs.Cipher.{rounds}

@@ -1,9 +1,9 @@
 -- `key_expansion` meets its contract: before each turn the first i words are made, and the others are zero.
 use borrow.Author.Rules.{rules}
 use mathlib.Core.Path.{◌≡◌, ap₂, ◌∙◌}
-use Prim.Native.Nat.{ℕ, ◌-◌, ◌+◌, ◌*◌}
+use Prim.Native.Nat.{ℕ, ◌+◌, ◌*◌}
 use native.Mathlib.Omega.{arith}
-use lib.ListN.{length, length-set}
+use lib.ListN.{length-set}
 use Rattle.aes_key_expansion.specs.KeySizes.{nk, nr}
 use Rattle.aes_key_expansion.specs.KeyExpansion.{key_expansion, schedule}
 use Rattle.aes_key_expansion.proofs.Sizes.{bounds}

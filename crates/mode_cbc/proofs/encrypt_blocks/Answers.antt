@@ -1,7 +1,7 @@
 -- `encrypt_blocks` meets its contract: the blocks done and what the mode makes of the others are what it makes of all.
 use borrow.Author.Rules.{rules}
 use mathlib.Core.Path.{◌≡◌, ◌∙◌, sym}
-use Prim.Native.Nat.{◌-◌, ◌/◌}
+use Prim.Native.Nat.{◌/◌}
 use native.Mathlib.Omega.{arith}
 use lib.ListN.{length}
 use Rattle.octets.proofs.Writing.{wrote_length}

@@ -2,9 +2,9 @@
 use borrow.Author.Rules.{rules}
 use mathlib.Core.Path.{◌≡◌, refl, ap₂, ◌∙◌}
 use mathlib.Core.List.{◌∷◌, ◌++◌}
-use Prim.Native.Nat.{◌-◌, ◌*◌, ◌%◌}
+use Prim.Native.Nat.{◌*◌, ◌%◌}
 use native.Mathlib.Omega.{arith}
-use lib.ListN.{length, get_or, take, length-set, drop_of_length-le}
+use lib.ListN.{get_or, take, length-set, drop_of_length-le}
 use lib.Seq.{set_split}
 use Rattle.octets.specs.Bytes.{Bytes, tabulate}
 use Rattle.octets.proofs.Tabulate.{tabulate_store}

@@ -1,11 +1,10 @@
 -- `put_bytes` meets its contract: before each turn the first i bytes of src are written.
 use borrow.Author.Rules.{rules}
 use mathlib.Core.Path.{ap, ◌∙◌}
-use Prim.Native.Nat.{ℕ, ◌+◌, ◌-◌}
+use Prim.Native.Nat.{ℕ, ◌+◌}
 use native.Mathlib.Omega.{arith}
-use lib.ListN.{length, set, get_or, length-set}
+use lib.ListN.{set, get_or, length-set}
 use mathlib.Core.List.{List}
-use Rattle.octets.specs.Write.{put}
 use Rattle.octets.proofs.Writing.{put_none, put_more, put_all}
 use Rattle.octets.proofs.put_bytes.Goals as goal
 

@@ -1,11 +1,10 @@
 -- `put_zeros` meets its contract: before each turn i zeros are written.
 use borrow.Author.Rules.{rules}
 use mathlib.Core.Path.{◌≡◌, sym, ap₂, ◌∙◌}
-use Prim.Native.Nat.{ℕ, ◌+◌, ◌-◌}
+use Prim.Native.Nat.{ℕ, ◌+◌}
 use native.Mathlib.Omega.{arith}
 use lib.ListN.{length, set, length-set, get_or-replicate, length-replicate}
 use Rattle.octets.specs.Bytes.{Bytes, zeros}
-use Rattle.octets.specs.Write.{put}
 use Rattle.octets.proofs.Writing.{put_none, put_more, put_all}
 use Rattle.octets.proofs.put_zeros.Goals as goal
 

@@ -1,11 +1,10 @@
 -- `block_at` meets its contract: before each turn the first i bytes of the part are stored.
 use borrow.Author.Rules.{rules}
 use mathlib.Core.Path.{◌≡◌, refl, sym, ◌∙◌}
-use Prim.Native.Nat.{ℕ, ◌+◌, ◌-◌}
 use native.Mathlib.Omega.{arith}
-use lib.ListN.{length, get_or, take, length-set}
+use lib.ListN.{take, length-set}
 use lib.Seq.{take_all}
-use Rattle.octets.specs.Bytes.{Bytes, tabulate}
+use Rattle.octets.specs.Bytes.{tabulate}
 use Rattle.octets.proofs.Tabulate.{tabulate_store, tabulate_part}
 use Rattle.octets_blocks.proofs.block_at.Invariants.{byte}
 use Rattle.octets_blocks.proofs.block_at.Goals as goal

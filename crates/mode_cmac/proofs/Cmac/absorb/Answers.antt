@@ -1,10 +1,9 @@
 -- `absorb` meets its contract: the bytes left bring the state to where all of them bring the first state.
 use borrow.Author.Rules.{rules}
 use mathlib.Core.Path.{◌≡◌, refl, sym, ap, ◌∙◌}
-use Prim.Native.Nat.{◌-◌}
 use native.Mathlib.Omega.{arith}
 use mathlib.Core.List.{[]}
-use lib.ListN.{length, drop, drop_of_length-le}
+use lib.ListN.{drop, drop_of_length-le}
 use Rattle.aes.specs.Aes.{ciph}
 use Rattle.mode_cmac.specs.Running.{absorb}
 use Rattle.mode_cmac.proofs.Cmac.absorb.Goals as goal
