@@ -21,5 +21,8 @@ returns c =
     let a = c.args in
     let r = c.reassemble_command-result.ensures in
     let v = c.reassembly_values-values.ensures ∙ ap (λ (x : Reassembly). reassembly_values x.answer) r.result in
-    let n = c.chain_number.ensures ∙ ap (λ (x : Reassembly). chain_number x.chain) r.result in record { call = (λ i. left (v i).number (n i) (r.output i) (v i).len (v i).status (v i).ins (v i).p1 (v i).p2)
-          ∙ ap (λ (x : CommandChain). leaves_with x (given a.chain.now a.apdu.now a.field.now)) c.chain_of-held.ensures; bytes = λ i l. (c.type_inv.apdu i).fits }
+    let n = c.chain_number.ensures ∙ ap (λ (x : Reassembly). chain_number x.chain) r.result in record {
+      call = (λ i. left (v i).number (n i) (r.output i) (v i).len (v i).status (v i).ins (v i).p1 (v i).p2)
+          ∙ ap (λ (x : CommandChain). leaves_with x (given a.chain.now a.apdu.now a.field.now)) c.chain_of-held.ensures;
+      bytes = λ i l. (c.type_inv.apdu i).fits;
+    }
