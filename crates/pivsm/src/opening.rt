@@ -1,4 +1,4 @@
-// The call of capi_open for C.
+// The calls of capi_open for C.
 ghost use Rattle.std.specs.Prelude.{◌≡◌};
 ghost use Rattle.session_suite.specs.StoredKeys.{KeysOfBytes, keys};
 ghost use Rattle.capi_open.specs.Call.{given, left, pivsm_open_host, pivsm_open_card};
