@@ -1,5 +1,5 @@
--- Calls that a program in C made (c/include/pivsm.h). Each is an exported function's arguments, its result and what
--- its references hold at exit, of which the function's contract holds (`Learnt`, which Rattle generates from the
+-- Calls that a program in C made (c/include/pivsm.h). Each is the arguments of the function that the export calls, its
+-- result and what its references hold at exit, of which the function's contract holds (`Learnt`, which Rattle generates from the
 -- contract and proves of the code). The places of the arguments are counted in `…Given` and `…Left` alone;
 -- proofs/Named.antt shows that each stands where the contract has it, and where every call from C has it.
 use Rattle.std.specs.Prelude.{ℕ, zero, suc, length, take}

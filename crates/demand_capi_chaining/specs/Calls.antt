@@ -1,5 +1,5 @@
--- Calls of fragmenting and reassembling that a program in C made (c/include/pivsm.h). Each is an exported function's
--- arguments, its result and what its references hold at exit, of which the function's contract holds (`Learnt`, which
+-- Calls of fragmenting and reassembling that a program in C made (c/include/pivsm.h). Each is the arguments of the
+-- function that the export calls, its result and what its references hold at exit, of which the function's contract holds (`Learnt`, which
 -- Rattle generates from the contract and proves of the code). The places of the arguments are counted in `…Given` and
 -- `…Left` alone; proofs/Named.antt shows that each stands where the contract has it.
 use Rattle.std.specs.Prelude.{ℕ}
@@ -12,7 +12,7 @@ use Rattle.capi_fragment_response.proofs.pivsm_fragment_response.Reads as fragme
 use Rattle.capi_fragment_response.proofs.pivsm_fragment_response.Kinds as fragment-response-kinds
 use Rattle.capi_reassemble_response.proofs.pivsm_reassemble_response.Reads as reassemble-response
 use Rattle.capi_reassemble_response.proofs.pivsm_reassemble_response.Kinds as reassemble-response-kinds
-use Rattle.capi_get_response.proofs.pivsm_get_response.Reads as get_response_lem
+use Rattle.capi_get_response.proofs.pivsm_get_response.Reads as get-response
 use Rattle.capi_get_response.proofs.pivsm_get_response.Kinds as get-response-kinds
 use Rattle.capi_fragment_command.specs.Call as FragmentCommand
 use Rattle.capi_reassemble_command.specs.Call as ReassembleCommand
@@ -71,7 +71,7 @@ reassemble_response_left c =
     c.exit.1.1.1.1.0.now
 
 abbrev pub GetsResponse : Type 0
-GetsResponse = Ran 2 get-response-kinds.ps get-response-kinds.r ℕ get_response_lem.Learnt
+GetsResponse = Ran 2 get-response-kinds.ps get-response-kinds.r ℕ get-response.Learnt
 
 abbrev pub get_response_given : GetsResponse → GetResponse.Given
 get_response_given c = GetResponse.given c.args.0 c.args.1.0.now

@@ -1,4 +1,4 @@
--- Demand 2: "Wrapping, cutting, joining and unwrapping": a command that the host wraps and fragments, by any size that may be asked for, and that the card
+-- Demand 2: a command that the host wraps and fragments, by any size that may be asked for, and that the card
 -- reassembles and unwraps, of the functions. Assumes nothing.
 use Rattle.std.specs.Prelude.{◌≡◌, true, List, [], ◌∷◌, ℕ, ◌+◌, ◌≤◌, ◌<◌, length, take}
 use Rattle.octets.specs.Bytes.{Bytes}
