@@ -1,5 +1,5 @@
 #!/usr/bin/env python3
-"""What rt ci did, from its log: how many crates were proved and how many edits refused, by layer.
+"""What rt ci found, from its log: how many crates are proved and how many edits refused, by layer.
 
     summary.py LOG
 """
@@ -8,7 +8,7 @@ import re
 import sys
 
 ROOT = pathlib.Path(__file__).resolve().parent.parent
-CRATE = re.compile(r"rt: (\w+) proved$")
+CRATE = re.compile(r"rt: (\w+) (?:proved$|is kept)")
 EDIT = re.compile(r"rt: must-fail (\w+)/\S+: refused")
 
 
@@ -24,10 +24,10 @@ def layers():
 
 
 def main(log):
-    crates, edits, layer_of = [], [], layers()
+    crates, edits, layer_of = set(), [], layers()
     for line in log.read_text(encoding="utf-8", errors="replace").splitlines():
         if found := CRATE.match(line):
-            crates.append(found[1])
+            crates.add(found[1])
         elif found := EDIT.match(line):
             edits.append(found[1])
     print("layer        crates  edits")
