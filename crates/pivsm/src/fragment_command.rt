@@ -1,8 +1,7 @@
-// The call of capi_fragment_command for C.
+// Exports the call of capi_fragment_command: what it promises and in which order it refuses stands there.
 ghost use Rattle.std.specs.Prelude.{◌≡◌};
 ghost use Rattle.capi_fragment_command.specs.Call.{given, left, pivsm_fragment_command};
 
-// Refusals 15, 4, 14 and 6.
 #[unsafe(no_mangle)]
 pub extern "C" fn pivsm_fragment_command(
     ins: u8,

@@ -1,4 +1,4 @@
-// The calls of c/include/pivsm.h, exported for programs in C: each is the function of its name, with the same promises.
+// Exports the calls of c/include/pivsm.h for programs in C. Each export calls the function of its name and has its clauses.
 #![tactic(auto)]
 
 mod close;

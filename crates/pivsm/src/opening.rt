@@ -1,9 +1,8 @@
-// The calls of capi_open for C.
+// Exports the calls of capi_open: what they promise and in which order they refuse stands there.
 ghost use Rattle.std.specs.Prelude.{◌≡◌};
 ghost use Rattle.session_suite.specs.StoredKeys.{KeysOfBytes, keys};
 ghost use Rattle.capi_open.specs.Call.{given, left, pivsm_open_host, pivsm_open_card};
 
-// Refusals 11, 12 and 6. `bytes` is what the types say of the arguments; the demands use it.
 #[unsafe(no_mangle)]
 pub extern "C" fn pivsm_open_host(
     suite: u32,
@@ -21,7 +20,6 @@ pub extern "C" fn pivsm_open_host(
     capi_open::pivsm_open_host(suite, enc, mac, rmac, session, len)
 }
 
-// Refusals 11, 12 and 6.
 #[unsafe(no_mangle)]
 pub extern "C" fn pivsm_open_card(
     suite: u32,

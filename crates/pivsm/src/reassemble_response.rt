@@ -1,9 +1,8 @@
-// The call of capi_reassemble_response for C.
+// Exports the call of capi_reassemble_response: what it promises and in which order it refuses stands there.
 ghost use Rattle.std.specs.Prelude.{◌≡◌};
 ghost use Rattle.octets.specs.Bytes.{IsBytes};
 ghost use Rattle.capi_reassemble_response.specs.Call.{given, left, pivsm_reassemble_response};
 
-// Refusals 7, 14, 4 and 6. `bytes` is what the types say of the arguments; the demands use it.
 #[unsafe(no_mangle)]
 pub extern "C" fn pivsm_reassemble_response(
     chain: &mut u64,

@@ -1,9 +1,8 @@
-// The call of capi_unwrap_response for C.
+// Exports the call of capi_unwrap_response: what it promises and in which order it refuses stands there.
 ghost use Rattle.std.specs.Prelude.{◌≡◌};
 ghost use Rattle.octets.specs.Bytes.{IsBytes};
 ghost use Rattle.capi_unwrap_response.specs.Call.{given, left, pivsm_unwrap_response};
 
-// Refusals 16, 1, 2, 13, 4, 7 or 8, 6, 9 and 10. `bytes` is what the types say of the arguments; the demands use it.
 #[unsafe(no_mangle)]
 pub extern "C" fn pivsm_unwrap_response(
     session: &mut [u8],

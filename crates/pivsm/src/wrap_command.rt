@@ -1,9 +1,8 @@
-// The call of capi_wrap_command for C.
+// Exports the call of capi_wrap_command: what it promises and in which order it refuses stands there.
 ghost use Rattle.std.specs.Prelude.{◌≡◌};
 ghost use Rattle.octets.specs.Bytes.{IsBytes};
 ghost use Rattle.capi_wrap_command.specs.Call.{given, left, pivsm_wrap_command};
 
-// Refusals 16, 1, 2, 3, 4, 5 and 6. `bytes` is what the types say of the arguments; the demands use it.
 #[unsafe(no_mangle)]
 pub extern "C" fn pivsm_wrap_command(
     session: &mut [u8],
