@@ -2,7 +2,7 @@
 """Checks the documents, and prints a line with file and line number for each fault.
 
 - Links within the repository lead to a file, and to a heading where they name one.
-- Names in backticks resolve, but for docs/PORT.md: a path is one of the repository, and a single word stands in its
+- Names in backticks resolve, but for docs/PORT.md and docs/DESIGN-PASS.md: a path is one of the repository, and a single word stands in its
   code, is a crate, or is the name of a file or an edit. `NAME_*` stands for all names that begin so. In indented blocks, names with an
   underscore and names of files resolve in the same way.
 - docs/ARCHITECTURE.md has every crate.
@@ -26,8 +26,8 @@ PROMISES_NAME_ALL = True
 EXAMPLE = "c/examples/read_object.c"
 # A numbered paper, with a line's end and a comment's mark between the two words or not.
 PAPER = re.compile(r"\bdocuments?[\s/#*|-]+0*(?:[0-9]|90)\b(?!\.\d)", re.IGNORECASE)
-# The page that sets the older language's names beside today's.
-OLDER = "docs/PORT.md"
+# The pages that set older names beside today's.
+OLDER = {"docs/PORT.md", "docs/DESIGN-PASS.md"}
 # Names of tools, of other projects and of parts of a language, which no file here has to define.
 FOREIGN = {"rt", "requires", "ensures", "ls", "sh", "git", "gcc", "bool", "struct", "enum", "lemma"}
 CODE = (".rt", ".antt", ".c", ".h", ".sh", ".py", ".stdout", ".in", "crates.txt", "Makefile")
@@ -175,7 +175,7 @@ def faults():
         found = list(cited_papers(text))
         if name.endswith(".md") and (name.startswith("docs/") or "/" not in name):
             found += bad_links(name, text)
-            if name != OLDER:
+            if name not in OLDER:
                 found += [*unknown_names(name, text, names), *unknown_in_blocks(name, text, names)]
         if name == "docs/ARCHITECTURE.md":
             found += crates_left_out(text)

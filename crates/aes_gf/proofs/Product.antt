@@ -1,7 +1,7 @@
--- One bit more of a product of two bytes, for the loop of `multiply`.
+-- One bit more of a product of two bytes, for the loop of `multiply` and for the multiples of MixColumns.
 use mathlib.Core.Path.{◌≡◌, ap, ap₂, ◌∙◌}
 use Prim.Native.Nat.{ℕ, zero, suc, ◌-◌, ◌*◌, ◌/◌, ◌%◌, ◌<◌}
-use native.Mathlib.Nat.{mul-le-mul_right, one-mul, zero-mul}
+use native.Mathlib.Nat.{one-mul, zero-mul}
 use native.Mathlib.Omega.{arith}
 use lib.Dec.{eqb}
 use Rattle.octets.specs.Bytes.{◌⊕◌}
@@ -9,16 +9,13 @@ use Rattle.std.specs.Prelude.{if◌then◌else◌}
 use Rattle.octets.proofs.Xor.{xor_assoc}
 use Rattle.aes_gf.specs.Field.{x_times, product}
 
-pub bit_times_lt : (b a : ℕ) → a < 256 → b % 2 * a < 256
-bit_times_lt b a h = omega (arith, mul-le-mul_right {m = b % 2} {n = 1} a (omega arith), one-mul a)
-
 -- the code multiplies by the bit where the definition chooses by it
 chosen : (d a : ℕ) → d < 2 → d * a ≡ (if eqb d 1 then a else 0)
 chosen zero a h = zero-mul a
 chosen (suc zero) a h = one-mul a
 chosen (suc (suc d)) a h = let z : ⊥ = omega arith in absurd z
 
-step : (n b a : ℕ) → 0 < n → (b % 2 * a) ⊕ product (n - 1) (b / 2) (x_times a) ≡ product n b a
+pub step : (n b a : ℕ) → 0 < n → (b % 2 * a) ⊕ product (n - 1) (b / 2) (x_times a) ≡ product n b a
 unfolding product
 step zero b a h = let z : ⊥ = omega arith in absurd z
 step (suc n) b a h =

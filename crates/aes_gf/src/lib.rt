@@ -18,12 +18,10 @@ pub fn multiply(b: u8, a: u8) -> u8
     let mut sum: u8 = 0;
     let mut bits = b;
     let mut shifted = a;
-    let mut left: usize = 8;
-    while 0 < left {
-        sum = sum ^ (bits % 2 * shifted);
-        bits = bits / 2;
+    for _ in 0..8usize {
+        sum ^= bits % 2 * shifted;
+        bits /= 2;
         shifted = x_times(shifted);
-        left -= 1;
     }
     sum
 }

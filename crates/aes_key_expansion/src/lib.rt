@@ -6,6 +6,7 @@ ghost use Rattle.std.specs.Prelude.{◌≡◌, ◌+◌, ◌*◌, ◌<◌, ◌≤
 ghost use Rattle.aes_sbox.specs.SBox.{IsTable, s_box};
 ghost use Rattle.aes_key_expansion.specs.KeySizes.{nk, nr};
 ghost use Rattle.aes_key_expansion.specs.KeyExpansion.{rot_word, rcon, key_word, next_word, schedule};
+ghost use Rattle.aes_key_expansion.specs.ExpandedKey.{expanded_key};
 ghost use Rattle.aes_key_expansion.specs.RoundKey.{round_key};
 
 use aes_add_round_key::add_word;
@@ -100,19 +101,37 @@ pub fn key_expansion(size: KeySize, key: [u8; 32]) -> [[u8; 4]; 60]
     let n = nk(size);
     let end = 4 * size.rounds() + 4;
     let mut w = [[0u8; 4]; 60];
-    let mut i: usize = 0;
-    while i < end {
+    for i in 0..end {
         w[i] = next_word(&table, n, &key, &w, i);
-        i += 1;
     }
     w
 }
 
-// The four words of a round key.
-pub fn round_key(w: &[[u8; 4]; 60], round: usize) -> [[u8; 4]; 4]
-    requires { round < 15 }
-    ensures { result ≡ round_key w.now round }
-{
-    let i = 4 * round;
-    [w[i], w[i + 1], w[i + 2], w[i + 3]]
+// A key's size and its schedule.
+#[derive(Clone, Copy)]
+pub struct ExpandedKey {
+    pub size: KeySize,
+    pub words: [[u8; 4]; 60],
+}
+
+impl ExpandedKey {
+    // A 128-bit key is the first 16 of the 32 bytes.
+    pub fn new(size: KeySize, key: [u8; 32]) -> ExpandedKey
+        ensures { result ≡ expanded_key size key }
+    {
+        ExpandedKey {
+            size,
+            words: key_expansion(size, key),
+        }
+    }
+
+    // The four words of a round key.
+    pub fn round_key(&self, round: usize) -> [[u8; 4]; 4]
+        requires { round < 15 }
+        ensures { result ≡ round_key self.now.words round }
+    {
+        let w = &self.words;
+        let i = 4 * round;
+        [w[i], w[i + 1], w[i + 2], w[i + 3]]
+    }
 }

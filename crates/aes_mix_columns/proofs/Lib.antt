@@ -1,3 +1,4 @@
 pub mod Sums
 pub mod MixColumn
+pub mod FourBits
 pub mod Undo

@@ -1,4 +1,4 @@
--- The products of MixColumns and InvMixColumns as the code makes them, by repeated xTimes; and InvMixColumns undoes MixColumns.
+-- InvMixColumns undoes MixColumns, and MixColumns makes bytes of bytes.
 use mathlib.Core.Path.{◌≡◌, ap₂, ◌∙◌}
 use Prim.Native.Nat.{ℕ, zero, suc, ◌/◌, ◌%◌, ◌<◌}
 use native.Mathlib.Omega.{arith}
@@ -9,7 +9,7 @@ use Rattle.std.specs.Prelude.{if◌then◌else◌}
 use Rattle.octets.proofs.ListsOfFour.{four}
 use Rattle.octets.proofs.Tabulate.{tabulate_get_d}
 use Rattle.octets.proofs.Xor.{xor_byte}
-use Rattle.aes_gf.specs.Field.{x_times, product, ◌•◌}
+use Rattle.aes_gf.specs.Field.{product, ◌•◌}
 use Rattle.aes_mix_columns.specs.MixColumn.{Column, mix_column, inv_mix_column}
 use Rattle.aes_gf.proofs.XTimes.{times_byte}
 use Rattle.aes_mix_columns.proofs.Sums.{Sum, byte, none, plus, by_x, equal}
@@ -23,37 +23,6 @@ products (suc n) b a = plus (if eqb (b % 2) 1 then a else none) (products n (b /
 -- b • a
 abbrev by : ℕ → Sum → Sum
 by b a = products 8 b a
-
--- the one byte a
-abbrev one : ℕ → ℕ → ℕ
-one a i = a
-
-pub times_02 : (a : ℕ) → x_times a ≡ 2 • a
-unfolding product ◌•◌
-times_02 a = equal (one a) 1 (by_x (byte 0)) (by 2 (byte 0)) tt
-
-pub times_03 : (a : ℕ) → x_times a ⊕ a ≡ 3 • a
-unfolding product ◌•◌
-times_03 a = equal (one a) 1 (plus (by_x (byte 0)) (byte 0)) (by 3 (byte 0)) tt
-
-abbrev by_xxx : Sum
-by_xxx = by_x (by_x (by_x (byte 0)))
-
-pub times_09 : (a : ℕ) → x_times (x_times (x_times a)) ⊕ a ≡ 0x09 • a
-unfolding product ◌•◌
-times_09 a = equal (one a) 1 (plus by_xxx (byte 0)) (by 0x09 (byte 0)) tt
-
-pub times_0b : (a : ℕ) → x_times (x_times (x_times a)) ⊕ x_times a ⊕ a ≡ 0x0b • a
-unfolding product ◌•◌
-times_0b a = equal (one a) 1 (plus (plus by_xxx (by_x (byte 0))) (byte 0)) (by 0x0b (byte 0)) tt
-
-pub times_0d : (a : ℕ) → x_times (x_times (x_times a)) ⊕ x_times (x_times a) ⊕ a ≡ 0x0d • a
-unfolding product ◌•◌
-times_0d a = equal (one a) 1 (plus (plus by_xxx (by_x (by_x (byte 0)))) (byte 0)) (by 0x0d (byte 0)) tt
-
-pub times_0e : (a : ℕ) → x_times (x_times (x_times a)) ⊕ x_times (x_times a) ⊕ x_times a ≡ 0x0e • a
-unfolding product ◌•◌
-times_0e a = equal (one a) 1 (plus (plus by_xxx (by_x (by_x (byte 0)))) (by_x (byte 0))) (by 0x0e (byte 0)) tt
 
 -- ---- a row of products
 

@@ -12,6 +12,8 @@ ghost use Rattle.aes_inverses.specs.Inverse.{powers, inverse};
 use aes_gf::multiply;
 use tables::{INV_SBOX, SBOX};
 
+// One function for each table, and an array, not a struct that holds its rule: the rule would be a type for each table.
+
 // The S-box's table. A caller that looks up many bytes takes it once and lends it.
 pub fn sbox() -> [u8; 256]
     ensures { IsTable s_box result }

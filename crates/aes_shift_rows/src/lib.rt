@@ -8,10 +8,7 @@ ghost use Rattle.aes_shift_rows.specs.ShiftRows.{shift_rows, inv_shift_rows};
 pub fn shift_rows(s: [[u8; 4]; 4]) -> [[u8; 4]; 4]
     ensures { result ≡ shift_rows s }
 {
-    let a = s[0];
-    let b = s[1];
-    let c = s[2];
-    let d = s[3];
+    let [a, b, c, d] = s;
     [
         [a[0], b[1], c[2], d[3]],
         [b[0], c[1], d[2], a[3]],
@@ -24,10 +21,7 @@ pub fn shift_rows(s: [[u8; 4]; 4]) -> [[u8; 4]; 4]
 pub fn inv_shift_rows(s: [[u8; 4]; 4]) -> [[u8; 4]; 4]
     ensures { result ≡ inv_shift_rows s }
 {
-    let a = s[0];
-    let b = s[1];
-    let c = s[2];
-    let d = s[3];
+    let [a, b, c, d] = s;
     [
         [a[0], d[1], c[2], b[3]],
         [b[0], a[1], d[2], c[3]],

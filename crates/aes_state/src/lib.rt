@@ -20,10 +20,7 @@ pub fn state_of(input: [u8; 16]) -> [[u8; 4]; 4]
 pub fn bytes_of(s: [[u8; 4]; 4]) -> [u8; 16]
     ensures { result ≡ bytes_of s }
 {
-    let a = s[0];
-    let b = s[1];
-    let c = s[2];
-    let d = s[3];
+    let [a, b, c, d] = s;
     [
         a[0], a[1], a[2], a[3], b[0], b[1], b[2], b[3], c[0], c[1], c[2], c[3], d[0], d[1], d[2],
         d[3],

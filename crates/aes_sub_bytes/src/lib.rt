@@ -9,7 +9,7 @@ ghost use Rattle.aes_state.specs.State.{at, word, state};
 fn look_up(table: &[u8; 256], b: u8) -> u8
     ensures { (f : ℕ → ℕ) → IsTable f table.now → result ≡ f b }
 {
-    table[b as usize]
+    table[usize::from(b)]
 }
 
 // FIPS 197, 5.2: SubWord, with the S-box's table.

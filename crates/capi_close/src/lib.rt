@@ -6,7 +6,6 @@ ghost use Rattle.octets.specs.Bytes.{IsBytes};
 ghost use Rattle.capi_close.specs.Call.{given, left, pivsm_close};
 
 use capi_session::{replace_session, session_in};
-use session_bytes::Decoding;
 
 // Refusal 16. `bytes` is what the types say of the arguments; the demands use it.
 pub fn pivsm_close(session: &mut [u8], len: &mut usize) -> u32
@@ -14,15 +13,11 @@ pub fn pivsm_close(session: &mut [u8], len: &mut usize) -> u32
         ≡ pivsm_close (given session.old len.old) }
     ensures bytes { IsBytes session.old }
 {
-    let decoded = session_in(session, *len);
-    let read = decoded.answer;
-    let held = decoded.session;
-    match read {
-        Decoding::Decoded => {
-            let next = held.close();
-            replace_session(0, next, session, len);
+    match session_in(session, *len) {
+        Ok(held) => {
+            replace_session(0, held.close(), session, len);
             0
         }
-        Decoding::Refused(refusal) => refusal.number(),
+        Err(refusal) => refusal.number(),
     }
 }

@@ -2,7 +2,8 @@
 use Rattle.std.specs.Prelude.{ℕ, length}
 use Rattle.octets.specs.Bytes.{Bytes}
 use Rattle.message_answer.specs.Answer.{Answer, buffer}
-use Rattle.chain_command.specs.Apdu.{Header, header}
+use Rattle.apdu.specs.Apdu.{header}
+use Rattle.apdu.specs.declared.Header.{Header}
 use Rattle.chain_command.specs.Fragment.{fragment_command, fragment_answer}
 use Rattle.capi_values.specs.ChainingValues.{fragment_values}
 

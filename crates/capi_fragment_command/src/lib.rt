@@ -4,10 +4,12 @@
 ghost use Rattle.std.specs.Prelude.{◌≡◌};
 ghost use Rattle.capi_fragment_command.specs.Call.{given, left, pivsm_fragment_command};
 
-use capi_values::fragment_values;
+use apdu::Header;
+use capi_values::HasValues;
 use chain_fragment_command::fragment_command;
 
 // Refusals 15, 4, 14 and 6.
+// INS, P1 and P2 are parameters of their own, since c/include/pivsm.h has them so.
 pub fn pivsm_fragment_command(
     ins: u8,
     p1: u8,
@@ -21,8 +23,8 @@ pub fn pivsm_fragment_command(
     ensures { left result apdu.new written.new
         ≡ pivsm_fragment_command (given ins p1 p2 field.now size number apdu.old) }
 {
-    let answer = fragment_command(ins, p1, p2, field, size, number, apdu);
-    let values = fragment_values(answer);
+    let header = Header { ins, p1, p2 };
+    let values = fragment_command(header, field, size, number, apdu).values();
     *written = values.len;
     values.number
 }

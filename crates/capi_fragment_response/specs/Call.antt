@@ -1,10 +1,10 @@
 -- pivsm_fragment_response of c/include/pivsm.h: one fragment of a response field, in the caller's buffer.
 use Rattle.std.specs.Prelude.{ℕ, length}
 use Rattle.octets.specs.Bytes.{Bytes}
-use Rattle.message_answer.specs.Message.{StatusWord}
+use Rattle.apdu.specs.Apdu.{status_of}
+use Rattle.apdu.specs.declared.StatusWord.{StatusWord}
 use Rattle.message_answer.specs.Answer.{Answer, buffer}
 use Rattle.chain_response.specs.Fragment.{next, fragment_response, fragment_answer}
-use Rattle.capi_values.specs.Values.{status_of}
 use Rattle.capi_values.specs.ChainingValues.{response_fragment_values}
 
 -- what the call is given: the status word, the field, the index and the number asked for, and the caller's buffer

@@ -4,10 +4,12 @@
 ghost use Rattle.std.specs.Prelude.{◌≡◌};
 ghost use Rattle.capi_fragment_response.specs.Call.{given, left, pivsm_fragment_response};
 
-use capi_values::response_fragment_values;
+use apdu::StatusWord;
+use capi_values::HasValues;
 use chain_fragment_response::fragment_response;
 
 // Refusals 3, 4, 14 and 6.
+// The status word is a number, since c/include/pivsm.h has it so.
 pub fn pivsm_fragment_response(
     sw: u16,
     field: &[u8],
@@ -20,10 +22,8 @@ pub fn pivsm_fragment_response(
     ensures { left result apdu.new written.new next.new
         ≡ pivsm_fragment_response (given sw field.now at le apdu.old) }
 {
-    let sw1 = (sw / 256) as u8;
-    let sw2 = (sw % 256) as u8;
-    let answer = fragment_response(sw1, sw2, field, at, le, apdu);
-    let values = response_fragment_values(answer);
+    let status = StatusWord::from(sw);
+    let values = fragment_response(status, field, at, le, apdu).values();
     *written = values.len;
     *next = values.next;
     values.number

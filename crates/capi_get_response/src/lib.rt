@@ -6,6 +6,7 @@ ghost use Rattle.capi_get_response.specs.Call.{given, left, pivsm_get_response};
 
 use chain_reassemble_response::get_response;
 use octets::put_bytes;
+use refusal::Refusal;
 
 // Refusal 6.
 pub fn pivsm_get_response(le: u8, apdu: &mut [u8], written: &mut usize) -> u32
@@ -14,9 +15,8 @@ pub fn pivsm_get_response(le: u8, apdu: &mut [u8], written: &mut usize) -> u32
 {
     *written = 5;
     if apdu.len() < 5 {
-        return 6;
+        return Refusal::BufferTooSmall(5).number();
     }
-    let bytes = get_response(le);
-    put_bytes(apdu, 0, &bytes);
+    put_bytes(apdu, 0, &get_response(le));
     0
 }

@@ -1,16 +1,14 @@
 -- pivsm_open_host and pivsm_open_card of c/include/pivsm.h: an opening, and its session's bytes in the caller's buffer.
-use Rattle.std.specs.Prelude.{◌≡◌, true, ℕ, leb, length}
+use Rattle.std.specs.Prelude.{◌≡◌, true, ℕ, leb, length, Result, Ok, Err}
 use Rattle.octets.specs.Bytes.{Bytes}
 use Rattle.refusal.specs.Refusal.{size}
+use Rattle.refusal.specs.declared.Refusal.{Refusal}
 use Rattle.refusal.specs.declared.Refusal.TheVariants.{BufferTooSmall}
 use Rattle.session_suite.specs.StoredKeys.{Keys, keys}
-use Rattle.session.specs.Opening.{opening}
+use Rattle.session.specs.Opening.{Opened, opening}
 use Rattle.session.specs.declared.Side.{Side}
 use Rattle.session.specs.declared.Side.TheVariants.{Host, Card}
 use Rattle.session.specs.declared.Session.{Session}
-use Rattle.session.specs.declared.Opened.{Opened}
-use Rattle.session.specs.declared.Opening.{Opening}
-use Rattle.session.specs.declared.Opening.TheVariants.{Opened as Done, Refused}
 use Rattle.session_rules.specs.Valid.{valid}
 use Rattle.session_bytes.specs.Saved.{session_size, encode}
 use Rattle.message_answer.specs.Answer.{Answer, refused, gave, require◌else◌⨾◌, buffer}
@@ -36,16 +34,16 @@ left number session len = record { number = number; session = session; len = len
 
 -- a session that was opened keeps the rules of a session
 abbrev pub OpenedValid : Opened → Type 0
-OpenedValid o = o.answer ≡ Done → valid o.session ≡ true
+OpenedValid o = o.answer ≡ Ok tt → valid o.next ≡ true
 
 -- the session's bytes: 6 where there is no room for them
 unfoldable pub saved : Session → ℕ → Answer Bytes
 saved s room = require leb session_size room else BufferTooSmall session_size ⨾ gave (encode s)
 
 -- of a session that was opened; 11 and 12 come first
-unfoldable pub opened_as : Opening → Session → ℕ → Answer Bytes
-opened_as Done s room = saved s room
-opened_as (Refused r) s room = refused r
+unfoldable pub opened_as : Result (Unit {0}) Refusal → Session → ℕ → Answer Bytes
+opened_as (Ok u) s room = saved s room
+opened_as (Err r) s room = refused r
 
 -- the length of the session, the length needed, or 0
 abbrev pub opened_len : Answer Bytes → ℕ
@@ -56,7 +54,7 @@ abbrev pub leaves : Bytes → Answer Bytes → Left
 leaves before a = left (number_of a) (buffer (λ bytes. bytes) before a) (opened_len a)
 
 abbrev pub leaves_opened : Bytes → Opened → Left
-leaves_opened before o = leaves before (opened_as o.answer o.session (length before))
+leaves_opened before o = leaves before (opened_as o.answer o.next (length before))
 
 abbrev pub pivsm_open : Side → Given → Left
 pivsm_open side g = leaves_opened g.session (opening side g.suite g.keys)

@@ -1,4 +1,4 @@
-// Opening a session, for programs in C (c/include/pivsm.h).
+// Opening a session, for programs in C (c/include/pivsm.h), which has a call for each side.
 #![tactic(auto)]
 
 ghost use Rattle.std.specs.Prelude.{true, ◌≡◌, length};
@@ -7,10 +7,9 @@ ghost use Rattle.session_rules.specs.Valid.{valid};
 ghost use Rattle.capi_values.specs.Values.{refusal_values};
 ghost use Rattle.capi_open.specs.Call.{given, left, OpenedValid, saved, leaves, leaves_opened, pivsm_open_host, pivsm_open_card};
 
-use capi_values::refusal_values;
-use refusal::Refusal;
-use session::{Opened, Opening, Session};
-use session_bytes::{Encoding, SIZE, encode};
+use refusal::{Answered, Refusal};
+use session::Session;
+use session_bytes::{SIZE, encode};
 
 // Refusals 11, 12 and 6. `bytes` is what the types say of the arguments; the demands use it.
 pub fn pivsm_open_host(
@@ -47,16 +46,14 @@ pub fn pivsm_open_card(
 }
 
 // Saves a session that was opened.
-fn put_opened(opened: Opened, session: &mut [u8], len: &mut usize) -> u32
+fn put_opened(opened: Answered<(), Session>, session: &mut [u8], len: &mut usize) -> u32
     requires { OpenedValid opened }
     ensures { left result session.new len.new
         ≡ leaves_opened session.old opened }
 {
-    let answer = opened.answer;
-    let fresh = opened.session;
-    match answer {
-        Opening::Opened => put_saved(fresh, session, len),
-        Opening::Refused(refusal) => put_refused(refusal, len),
+    match opened.answer {
+        Ok(()) => put_saved(opened.next, session, len),
+        Err(refusal) => put_refused(refusal, len),
     }
 }
 
@@ -66,13 +63,12 @@ fn put_saved(fresh: Session, session: &mut [u8], len: &mut usize) -> u32
     ensures { left result session.new len.new
         ≡ leaves session.old (saved fresh (length session.old)) }
 {
-    let saving = encode(fresh, session);
-    match saving {
-        Encoding::Encoded => {
+    match encode(fresh, session) {
+        Ok(()) => {
             *len = SIZE;
             0
         }
-        Encoding::Refused(refusal) => put_refused(refusal, len),
+        Err(no_room) => put_refused(no_room, len),
     }
 }
 
@@ -81,7 +77,6 @@ fn put_refused(refusal: Refusal, len: &mut usize) -> u32
     ensures number { result ≡ (refusal_values refusal).number }
     ensures len { len.new ≡ (refusal_values refusal).len }
 {
-    let values = refusal_values(refusal);
-    *len = values.len;
-    values.number
+    *len = refusal.size();
+    refusal.number()
 }

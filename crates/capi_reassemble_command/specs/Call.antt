@@ -1,9 +1,8 @@
 -- pivsm_reassemble_command of c/include/pivsm.h: the data of one APDU, put behind what stands in the caller's buffer.
 use Rattle.std.specs.Prelude.{ℕ, length}
 use Rattle.octets.specs.Bytes.{Bytes}
-use Rattle.chain_command.specs.Reassembly.{reassemble_command, reassembly_buffer}
+use Rattle.chain_command.specs.Reassembly.{Reassembly, reassemble_command, reassembly_buffer}
 use Rattle.chain_command.specs.declared.CommandChain.{CommandChain}
-use Rattle.chain_command.specs.declared.Reassembly.{Reassembly}
 use Rattle.capi_values.specs.ChainingValues.{reassembly_values}
 use Rattle.capi_reassemble_command.specs.ChainNumbers.{chain_number, chain_of}
 
@@ -38,8 +37,8 @@ reassembled c g = reassemble_command c g.apdu (length g.field)
 abbrev pub leaves : Reassembly → Bytes → Left
 leaves r field =
     let values = reassembly_values r.answer in
-    left values.number (chain_number r.chain) field values.len
-    values.status values.ins values.p1 values.p2
+    left values.number (chain_number r.next) field values.len
+    values.status values.header.ins values.header.p1 values.header.p2
 
 abbrev pub leaves_with : CommandChain → Given → Left
 leaves_with c g = leaves (reassembled c g) (reassembly_buffer c g.apdu g.field)

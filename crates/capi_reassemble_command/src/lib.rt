@@ -7,11 +7,13 @@ ghost use Rattle.capi_reassemble_command.specs.ChainNumbers.{chain_number, chain
 ghost use Rattle.octets.specs.Bytes.{IsBytes};
 ghost use Rattle.capi_reassemble_command.specs.Call.{given, left, pivsm_reassemble_command};
 
-use capi_values::reassembly_values;
+use apdu::Header;
+use capi_values::HasValues;
 use chain_command::CommandChain;
 use chain_reassemble_command::reassemble_command;
 
 // Refusals 7, 14, 4 and 6. `bytes` is what the types say of the arguments; the demands use it.
+// INS, P1 and P2 are parameters of their own, since c/include/pivsm.h has them so.
 pub fn pivsm_reassemble_command(
     chain: &mut u64,
     apdu: &[u8],
@@ -29,41 +31,35 @@ pub fn pivsm_reassemble_command(
 {
     let held = chain_of(*chain);
     let result = reassemble_command(held, apdu, field);
-    let answer = result.answer;
-    let next = result.chain;
-    *chain = chain_number(next);
-    let values = reassembly_values(answer);
+    *chain = chain_number(result.next);
+    let values = result.answer.values();
     *written = values.len;
     *sw = values.status;
-    *ins = values.ins;
-    *p1 = values.p1;
-    *p2 = values.p2;
+    *ins = values.header.ins;
+    *p1 = values.header.p1;
+    *p2 = values.header.p2;
     values.number
 }
 
 // The chain that a number stands for.
+#[tactic(auto, unfolding(crate::specs::ChainNumbers::chain_of))]
 fn chain_of(n: u64) -> CommandChain
     ensures { result ≡ chain_of n }
 {
+    let [.., ins, p1, p2] = n.to_be_bytes();
     CommandChain {
         len: (n / 16777216) as usize,
-        ins: (n / 65536 % 256) as u8,
-        p1: (n / 256 % 256) as u8,
-        p2: (n % 256) as u8,
+        header: Header { ins, p1, p2 },
     }
 }
 
-fn wide(b: u8) -> u64
-    ensures { result ≡ b }
-{
-    b as u64
-}
-
 // The number of a chain.
+#[tactic(auto, unfolding(crate::specs::ChainNumbers::chain_number))]
 fn chain_number(chain: CommandChain) -> u64
     requires { chain.len ≤ max_command_field }
     ensures { result ≡ chain_number chain }
 {
-    let len = chain.len as u64;
-    len * 16777216 + wide(chain.ins) * 65536 + wide(chain.p1) * 256 + wide(chain.p2)
+    let Header { ins, p1, p2 } = chain.header;
+    let header = u32::from_be_bytes([0, ins, p1, p2]);
+    chain.len as u64 * 16777216 + u64::from(header)
 }

@@ -2,8 +2,7 @@
 -- A chain is one number for a program in C, the length reassembled; 0 is the empty chain.
 use Rattle.std.specs.Prelude.{ℕ, length}
 use Rattle.octets.specs.Bytes.{Bytes}
-use Rattle.chain_response.specs.Reassembly.{chain, reassemble_response, reassembly_buffer}
-use Rattle.chain_response.specs.declared.ResponseReassembly.{ResponseReassembly}
+use Rattle.chain_response.specs.Reassembly.{ResponseReassembly, chain, reassemble_response, reassembly_buffer}
 use Rattle.capi_values.specs.ChainingValues.{response_reassembly_values}
 
 -- what the call is given: the chain's number, the fragment with its status word, and the caller's buffer
@@ -33,7 +32,7 @@ reassembled g = reassemble_response (chain g.chain) g.apdu (length g.field)
 abbrev pub leaves : ResponseReassembly → Bytes → Left
 leaves r field =
     let values = response_reassembly_values r.answer in
-    left values.number r.chain.len field values.len values.status
+    left values.number r.next.len field values.len values.status
 
 abbrev pub pivsm_reassemble_response : Given → Left
 pivsm_reassemble_response g = leaves (reassembled g) (reassembly_buffer (chain g.chain) g.apdu g.field)

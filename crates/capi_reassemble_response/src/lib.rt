@@ -5,11 +5,12 @@ ghost use Rattle.std.specs.Prelude.{◌≡◌};
 ghost use Rattle.octets.specs.Bytes.{IsBytes};
 ghost use Rattle.capi_reassemble_response.specs.Call.{given, left, pivsm_reassemble_response};
 
-use capi_values::response_reassembly_values;
+use capi_values::HasValues;
 use chain_reassemble_response::reassemble_response;
 use chain_response::ResponseChain;
 
 // Refusals 7, 14, 4 and 6. `bytes` is what the types say of the arguments; the demands use it.
+// The status word is a number, since c/include/pivsm.h has it so.
 pub fn pivsm_reassemble_response(
     chain: &mut u64,
     apdu: &[u8],
@@ -26,10 +27,8 @@ pub fn pivsm_reassemble_response(
         len: *chain as usize,
     };
     let result = reassemble_response(held, apdu, field);
-    let answer = result.answer;
-    let next = result.chain;
-    *chain = next.len as u64;
-    let values = response_reassembly_values(answer);
+    *chain = result.next.len as u64;
+    let values = result.answer.values();
     *written = values.len;
     *sw = values.status;
     values.number

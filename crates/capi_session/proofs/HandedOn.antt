@@ -12,8 +12,8 @@ use Rattle.octets.specs.Write.{over}
 use Rattle.session.specs.Arrays.{Arrays}
 use Rattle.session.specs.declared.Session.{Session}
 use Rattle.session_rules.specs.Valid.{valid}
-use Rattle.session_bytes.specs.Saved.{session_size, header, keys, mcvs, encode, decoded_to, decode}
-use Rattle.session_bytes.specs.declared.Decoded.{Decoded}
+use Rattle.std.specs.Prelude.{Ok}
+use Rattle.session_bytes.specs.Saved.{Decoded, session_size, header, keys, mcvs, encode, decode}
 use Rattle.session_bytes.proofs.DecodeEncode.{decode_encode}
 use Rattle.message_answer.specs.Answer.{Out}
 use Rattle.capi_session.specs.SessionBytes.{Holder, served_by, on_holder, Held, session_in, put_in}
@@ -48,7 +48,7 @@ module _ (s : Session) (l : Lengths s) (h : IsBytes (encode s)) where
 
 -- the session's bytes at the start of a buffer, handed in with their length
 pub reads_back : (h : Held) (s : Session) → IsBytes h.bytes → valid s ≡ true → Lengths s → take h.len h.bytes ≡ encode s
-    → h.len ≡ length (encode s) → session_in h ≡ decoded_to s
+    → h.len ≡ length (encode s) → session_in h ≡ Ok s
 unfolding session_in
 reads_back h s b v l e n =
     let fits : h.len ≤ length h.bytes = omega (arith, n, ap length e, length-take h.len h.bytes) in
@@ -61,7 +61,7 @@ unfolding put_in over
 left_bytes_lem h s l = take_at (encode s) (drop (length (encode s)) h.bytes) session_size (encode_long s l)
 
 -- a call on a holder whose session is known: its answer, and what is held then
-pub on_read : {H A : Type 0} (by : Holder H) (h : H) (s : Session) (call : Session → Out A) → by.read h ≡ decoded_to s
+pub on_read : {H A : Type 0} (by : Holder H) (h : H) (s : Session) (call : Session → Out A) → by.read h ≡ Ok s
     → on_holder by h call ≡ record { answer = (call s).answer; held = by.put h (call s).next }
 unfolding served_by
-on_read by h s call e = ap (λ (d : Decoded). served_by d.answer (by.put h) h (call d.session)) e
+on_read by h s call e = ap (λ (d : Decoded). served_by d (by.put h) h call) e

@@ -8,16 +8,14 @@ use borrow.Author.Tests.{leb-true}
 use lib.Dec.{eqb, leb}
 use lib.ListN.{length, take, drop, length-take, take-append-drop}
 use Rattle.octets.specs.Bytes.{Bytes, IsBytes}
-use Rattle.std.specs.Prelude.{if◌then◌else◌}
+use Rattle.std.specs.Prelude.{if◌then◌else◌, Ok, Err}
 use Rattle.octets.specs.Write.{over}
 use Rattle.refusal.specs.Refusal.{number}
 use Rattle.refusal.specs.declared.Refusal.{Refusal}
 use Rattle.session.specs.declared.Session.{Session}
 use Rattle.session_rules.specs.Valid.{valid}
-use Rattle.session_bytes.specs.Saved.{session_size, encode, decode, unreadable}
-use Rattle.session_bytes.specs.declared.Decoded.{Decoded}
-use Rattle.session_bytes.specs.declared.Decoding.TheVariants.{Decoded as Done, Refused}
-use Rattle.session_bytes.proofs.EncodeDecode.{decoded_read, encode_decode}
+use Rattle.session_bytes.specs.Saved.{session_size, decode, unreadable}
+use Rattle.session_bytes.proofs.EncodeDecode.{decoded_read, decoded_valid, encode_decode}
 use Rattle.message_answer.specs.Outcome as any
 use Rattle.message_answer.specs.Outcome.{closes}
 use Rattle.message_answer.specs.Answer.{Answer, refused, gave, Outcome, Out, concluded, buffer}
@@ -31,42 +29,35 @@ use Rattle.octets.proofs.ByteStrings.{bytes_taken}
 never : {P : Type 0} → ◌≡◌ {A = ℕ} 0 1 → P
 never z = let o : ⊥ = omega arith in absurd o
 
--- what was read stands at the start of the buffer, and is as long as it was said to be
-pub record ReadFrom (h : Held) : Type 0 where
+-- the session that was read stands at the start of the buffer, and is as long as it was said to be
+pub record ReadFrom (h : Held) (s : Session) : Type 0 where
   pub room : session_size ≤ length h.bytes
   pub long : h.len ≡ session_size
-  pub rules : valid (session_in h).session ≡ true
-  pub back : IsBytes h.bytes → put_in h (session_in h).session ≡ h
+  pub rules : valid s ≡ true
+  pub back : IsBytes h.bytes → put_in h s ≡ h
 
-pub read_from : (h : Held) → (session_in h).answer ≡ Done → ReadFrom h
+pub read_from : (h : Held) (s : Session) → session_in h ≡ Ok s → ReadFrom h s
 unfolding session_in put_in over
-read_from h e = let r = go (leb h.len (length h.bytes)) refl e in record { room = r.0; long = r.1; rules = r.2; back = r.3 }
+read_from h s = go (leb h.len (length h.bytes)) refl
   where
     xs : Bytes
     xs = h.bytes
 
-    go : (t : Bool) → leb h.len (length xs) ≡ t → (if t then decode (take h.len xs) else unreadable).answer ≡ Done
-        → (session_size ≤ length xs) × (h.len ≡ session_size)
-        × (valid (if t then decode (take h.len xs) else unreadable).session ≡ true)
-        × (IsBytes xs → held_in (over xs (encode (if t then decode (take h.len xs) else unreadable).session)) session_size ≡ h)
+    go : (t : Bool) → leb h.len (length xs) ≡ t → (if t then decode (take h.len xs) else unreadable) ≡ Ok s → ReadFrom h s
     go true f e =
         let fits : h.len ≤ length xs = leb-true h.len (length xs) f in
-        let read = decoded_read (take h.len xs) e in
+        let read = decoded_read (take h.len xs) s e in
         let size : length (take h.len xs) ≡ session_size = read.first.size in
         let l : length (take h.len xs) ≡ h.len = omega (arith, length-take h.len xs) in
-        let long : h.len ≡ session_size = sym l ∙ size in (
-          omega (arith, fits, long),
-          long,
-          ap valid read.session ∙ read.keeps,
-          λ bytes i. held_in ((ap (over xs) (encode_decode (take h.len xs) (bytes_taken h.len xs bytes) e)
-              ∙ ap (λ (n : ℕ). take h.len xs ++ drop n xs) l ∙ take-append-drop h.len xs) i) (sym long i),
-        )
+        let long : h.len ≡ session_size = sym l ∙ size in
+        record {
+          room = omega (arith, fits, long);
+          long = long;
+          rules = decoded_valid (take h.len xs) s e;
+          back = λ bytes i. held_in ((ap (over xs) (encode_decode (take h.len xs) (bytes_taken h.len xs bytes) s e)
+              ∙ ap (λ (n : ℕ). take h.len xs ++ drop n xs) l ∙ take-append-drop h.len xs) i) (sym long i);
+        }
     go false f e = never (cc)
-
--- a session that was read keeps the rules
-pub read_valid : (h : Held) (d : Decoded) → d ≡ session_in h → d.answer ≡ Done → valid d.session ≡ true
-read_valid h d same told =
-    ap (λ (x : Decoded). valid x.session) same ∙ (read_from h (ap (λ (x : Decoded). x.answer) (sym same) ∙ told)).rules
 
 -- ---- where the session stays
 
@@ -90,35 +81,27 @@ pub record Gives {H A : Type 0} (values : Answer A → Values) (writes : A → B
   pub holds : held ≡ x.held
   pub output : after ≡ buffer writes before x.answer
 
-module _ {A : Type 0} (values : Answer A → Values) (writes : A → Bytes) (before : Bytes) (h : Held) (call : Session → Out A)
-    (d : Decoded) (same : d ≡ session_in h) where
-  -- the call by what was read
-  at_reading : served_by d.answer (put_in h) h (call d.session) ≡ on_session h call
-  at_reading = ap (λ (x : Decoded). served_by x.answer (put_in h) h (call x.session)) same
-
+module _ {A : Type 0} (values : Answer A → Values) (writes : A → Bytes) (before : Bytes) (h : Held) (call : Session → Out A) where
   -- where no session was read
-  pub was_not_read : (r : Refusal) → d.answer ≡ Refused r → (v : Values) → v ≡ values (refused r)
+  pub was_not_read : (r : Refusal) → session_in h ≡ Err r → (v : Values) → v ≡ values (refused r)
       → Gives values writes before (on_session h call) v h before
   unfolding served_by buffer
-  was_not_read r told v e =
-      let x = ap (λ a. served_by a (put_in h) h (call d.session)) (sym told) ∙ at_reading in
+  was_not_read r read v e =
+      let x = ap (λ a. served_by a (put_in h) h call) (sym read) in
       record {
         numbers = e ∙ ap (λ (y : Served Held A). values y.answer) x;
         holds = ap (λ (y : Served Held A). y.held) x;
         output = ap (λ (y : Served Held A). buffer writes before y.answer) x;
       }
 
-  module _ (told : d.answer ≡ Done) where
-    pub has_room : session_size ≤ length h.bytes
-    has_room = (read_from h (ap (λ (x : Decoded). x.answer) (sym same) ∙ told)).room
-
+  module _ (s : Session) (read : session_in h ≡ Ok s) where
     -- where one was, and the next is put in its place
-    pub was_read : (v : Values) (held : Held) (after : Bytes) → v ≡ values (call d.session).answer
-        → held ≡ put_in h (call d.session).next → after ≡ buffer writes before (call d.session).answer
+    pub was_read : (v : Values) (held : Held) (after : Bytes) → v ≡ values (call s).answer
+        → held ≡ put_in h (call s).next → after ≡ buffer writes before (call s).answer
         → Gives values writes before (on_session h call) v held after
     unfolding served_by
     was_read v held after ev eh eb =
-        let x = ap (λ a. served_by a (put_in h) h (call d.session)) (sym told) ∙ at_reading in
+        let x = ap (λ a. served_by a (put_in h) h call) (sym read) in
         record {
           numbers = ev ∙ ap (λ (y : Served Held A). values y.answer) x;
           holds = eh ∙ ap (λ (y : Served Held A). y.held) x;
@@ -126,25 +109,21 @@ module _ {A : Type 0} (values : Answer A → Values) (writes : A → Bytes) (bef
         }
 
     -- where one was, and it is replaced where the result changes it: a refusal that keeps the session leaves the bytes that were read
-    pub was_replaced : IsBytes h.bytes → (stages : Answer (Outcome A)) → call d.session ≡ concluded d.session stages
+    pub was_replaced : IsBytes h.bytes → (stages : Answer (Outcome A)) → call s ≡ concluded s stages
         → ((a : Answer A) → (values a).number ≡ number_of a) → (v : Values) (next : Session) (held : Held) (after : Bytes)
-        → v ≡ values (call d.session).answer → next ≡ (call d.session).next → held ≡ replaced v.number next h
-        → after ≡ buffer writes before (call d.session).answer → Gives values writes before (on_session h call) v held after
+        → v ≡ values (call s).answer → next ≡ (call s).next → held ≡ replaced v.number next h
+        → after ≡ buffer writes before (call s).answer → Gives values writes before (on_session h call) v held after
     unfolding replaced
     was_replaced bytes stages is numbered v next held after ev en eh eb =
         was_read v held after ev (eh ∙ go (changes v.number) refl ∙ ap (put_in h) en) eb
       where
-        read : ReadFrom h
-        read = read_from h (ap (λ (x : Decoded). x.answer) (sym same) ∙ told)
+        number_is : v.number ≡ number_of (concluded s stages).answer
+        number_is = ap (λ (x : Values). x.number) ev ∙ numbered (call s).answer ∙ ap (λ (o : Out A). number_of o.answer) is
 
-        number_is : v.number ≡ number_of (concluded d.session stages).answer
-        number_is = ap (λ (x : Values). x.number) ev ∙ numbered (call d.session).answer ∙ ap (λ (o : Out A). number_of o.answer) is
-
-        next_is : next ≡ (concluded d.session stages).next
+        next_is : next ≡ (concluded s stages).next
         next_is = en ∙ ap (λ (o : Out A). o.next) is
 
         go : (t : Bool) → changes v.number ≡ t → (if t then put_in h next else h) ≡ put_in h next
         go true f = refl
         go false f =
-            sym (ap (put_in h) (next_is ∙ unchanged d.session stages (ap changes (sym number_is) ∙ f)
-            ∙ ap (λ (x : Decoded). x.session) same) ∙ read.back bytes)
+            sym (ap (put_in h) (next_is ∙ unchanged s stages (ap changes (sym number_is) ∙ f)) ∙ (read_from h s read).back bytes)

@@ -1,16 +1,13 @@
 -- A call from C on a session that its caller holds as bytes. Bytes that hold no session are answered 16, before all
 -- else and at closing too.
-use Rattle.std.specs.Prelude.{Bool, ◌||◌, ℕ, eqb, leb, length, take}
+use Rattle.std.specs.Prelude.{Bool, ◌||◌, ℕ, eqb, leb, length, take, Ok, Err}
 use Rattle.octets.specs.Bytes.{Bytes}
 use Rattle.std.specs.Prelude.{if◌then◌else◌}
 use Rattle.octets.specs.Write.{over}
 use Rattle.refusal.specs.Refusal.{number}
 use Rattle.refusal.specs.declared.Refusal.TheVariants.{BadMac, BadPadding}
 use Rattle.session.specs.declared.Session.{Session}
-use Rattle.session_bytes.specs.Saved.{session_size, encode, decode, unreadable}
-use Rattle.session_bytes.specs.declared.Decoded.{Decoded}
-use Rattle.session_bytes.specs.declared.Decoding.{Decoding}
-use Rattle.session_bytes.specs.declared.Decoding.TheVariants.{Decoded as Done, Refused}
+use Rattle.session_bytes.specs.Saved.{Decoded, session_size, encode, decode, unreadable}
 use Rattle.message_answer.specs.Answer.{Answer, refused, Out}
 
 -- ---- any way to hold a session
@@ -26,12 +23,12 @@ pub record Served (H A : Type 0) : Type 0 where
   pub held : H
 
 -- the next session is put in the place of the one that was read; all stays as it was where none could be read
-unfoldable pub served_by : {H A : Type 0} → Decoding → (Session → H) → H → Out A → Served H A
-served_by Done put held out = record { answer = out.answer; held = put out.next }
-served_by (Refused r) put held out = record { answer = refused r; held = held }
+unfoldable pub served_by : {H A : Type 0} → Decoded → (Session → H) → H → (Session → Out A) → Served H A
+served_by (Ok s) put held call = record { answer = (call s).answer; held = put (call s).next }
+served_by (Err r) put held call = record { answer = refused r; held = held }
 
 abbrev pub on_holder : {H A : Type 0} → Holder H → H → (Session → Out A) → Served H A
-on_holder by held call = served_by (by.read held).answer (by.put held) held (call (by.read held).session)
+on_holder by held call = served_by (by.read held) (by.put held) held call
 
 -- ---- a buffer of the session's own
 

@@ -1,12 +1,14 @@
 -- pivsm_unwrap_response of c/include/pivsm.h: the host's unwrap, with the session that the caller's bytes hold.
 use Rattle.std.specs.Prelude.{ℕ, length}
 use Rattle.octets.specs.Bytes.{Bytes}
+use Rattle.apdu.specs.Apdu.{status_of}
+use Rattle.apdu.specs.declared.StatusWord.{StatusWord}
 use Rattle.message_answer.specs.Answer.{buffer}
-use Rattle.message_answer.specs.Message.{StatusWord, Response}
+use Rattle.message_answer.specs.Message.{Response}
 use Rattle.message_ciphers.specs.Aes.{aes_ciphers}
 use Rattle.message_protocol.specs.Response.{host_unwraps}
 use Rattle.message_result.specs.Results.{response_answer}
-use Rattle.capi_values.specs.Values.{status_of, response_values}
+use Rattle.capi_values.specs.Values.{response_values}
 use Rattle.capi_session.specs.SessionBytes.{Served, Held, held_in, on_session}
 
 -- what the call is given: the session's buffer and length, the status word, the field, and the caller's buffer

@@ -5,12 +5,13 @@ ghost use Rattle.std.specs.Prelude.{◌≡◌};
 ghost use Rattle.octets.specs.Bytes.{IsBytes};
 ghost use Rattle.capi_unwrap_response.specs.Call.{given, left, pivsm_unwrap_response};
 
+use apdu::StatusWord;
 use capi_session::{replace_session, session_in};
-use capi_values::{refusal_values, response_values};
-use message_unwrap_response::unwrap_response_with_valid_session;
-use session_bytes::Decoding;
+use capi_values::HasValues;
+use message_unwrap_response::unwrap_response;
 
 // Refusals 16, 1, 2, 13, 4, 7 or 8, 6, 9 and 10. `bytes` is what the types say of the arguments; the demands use it.
+// The status word is a number, since c/include/pivsm.h has it so.
 pub fn pivsm_unwrap_response(
     session: &mut [u8],
     len: &mut usize,
@@ -26,27 +27,17 @@ pub fn pivsm_unwrap_response(
         field.now payload.old) }
     ensures bytes { IsBytes session.old }
 {
-    let sw1 = (sw / 256) as u8;
-    let sw2 = (sw % 256) as u8;
-    let decoded = session_in(session, *len);
-    let read = decoded.answer;
-    let held = decoded.session;
-    match read {
-        Decoding::Decoded => {
-            let result = unwrap_response_with_valid_session(held, sw1, sw2, field, payload);
-            let answer = result.answer;
-            let next = result.session;
-            let values = response_values(answer);
-            replace_session(values.number, next, session, len);
-            *written = values.len;
-            *status = values.status;
-            values.number
+    let sent = StatusWord::from(sw);
+    let values = match session_in(session, *len) {
+        Ok(held) => {
+            let result = unwrap_response(held, sent, field, payload);
+            let values = result.answer.values();
+            replace_session(values.number, result.next, session, len);
+            values
         }
-        Decoding::Refused(refusal) => {
-            let values = refusal_values(refusal);
-            *written = values.len;
-            *status = values.status;
-            values.number
-        }
-    }
+        Err(refusal) => refusal.values(),
+    };
+    *written = values.len;
+    *status = values.status;
+    values.number
 }

@@ -2,17 +2,18 @@
 #![tactic(auto)]
 
 ghost use Rattle.std.specs.Prelude.{◌≡◌};
-ghost use Rattle.capi_values.specs.Values.{given, refusal_values, wrap_values, command_values, response_values};
-ghost use Rattle.capi_values.specs.ChainingValues.{fragment_values, reassembly_values, response_fragment_values, response_reassembly_values};
+ghost use Rattle.capi_values.specs.Values.{given, refusal_values, answer_values, length_values, accepted_command_values, accepted_response_values};
+ghost use Rattle.capi_values.specs.ChainingValues.{command_part_values, given_fragment_values, response_part_values};
 
-use chain_command::{FragmentAnswer, ReassemblyAnswer};
-use chain_response::{ResponseFragmentAnswer, ResponseReassemblyAnswer};
+use apdu::{Header, StatusWord};
+use chain_command::CommandPart;
+use chain_response::{ResponseFragment, ResponsePart};
 use message_answer::MORE_SW1;
-use message_result::{CommandAnswer, ResponseAnswer, WrapAnswer};
-use refusal::{Refusal, status_word};
+use message_result::{AcceptedCommand, AcceptedResponse};
+use refusal::Refusal;
 
-// 0 and false where an answer has no such value.
-#[derive(Clone, Copy)]
+// The C interface gives 0 and false where an answer has no such value.
+#[derive(Clone, Copy, PartialEq, Eq)]
 pub struct Values {
     // 0 where the call is not refused.
     pub number: u32,
@@ -22,10 +23,8 @@ pub struct Values {
     pub status: u16,
     // Whether Le is present.
     pub le: bool,
-    // The header of a command that is whole.
-    pub ins: u8,
-    pub p1: u8,
-    pub p2: u8,
+    // Of a command that is whole.
+    pub header: Header,
     // The index of a field where the next fragment starts.
     pub next: usize,
 }
@@ -39,110 +38,110 @@ fn given(number: u32, len: usize, status: u16) -> Values
         len,
         status,
         le: false,
-        ins: 0,
-        p1: 0,
-        p2: 0,
+        header: Header {
+            ins: 0,
+            p1: 0,
+            p2: 0,
+        },
         next: 0,
     }
 }
 
-pub fn refusal_values(refusal: Refusal) -> Values
-    ensures { result ≡ refusal_values refusal }
-{
-    let number = refusal.number();
-    let size = refusal.size();
-    let status = refusal.status();
-    given(number, size, status)
+// An answer, or what it gives or refuses with: its number and values.
+pub trait HasValues {
+    ghost use Rattle.capi_values.specs.declared.Values.{Values};
+
+    ghost values: { Self → Values };
+
+    fn values(self) -> Values
+        ensures { result ≡ values self };
 }
 
-pub fn wrap_values(answer: WrapAnswer) -> Values
-    ensures { result ≡ wrap_values answer }
-{
-    match answer {
-        WrapAnswer::Wrapped(n) => given(0, n, 0),
-        WrapAnswer::Refused(refusal) => refusal_values(refusal),
+impl HasValues for Refusal {
+    ghost values = { refusal_values };
+
+    fn values(self) -> Values {
+        given(self.number(), self.size(), self.status())
     }
 }
 
-pub fn command_values(answer: CommandAnswer) -> Values
-    ensures { result ≡ command_values answer }
-{
-    match answer {
-        CommandAnswer::Accepted(n, le) => Values {
-            number: 0,
-            len: n,
-            status: 0,
-            le,
-            ins: 0,
-            p1: 0,
-            p2: 0,
-            next: 0,
-        },
-        CommandAnswer::Refused(refusal) => refusal_values(refusal),
+impl<T: HasValues> HasValues for Result<T, Refusal> {
+    ghost values = { answer_values T.values };
+
+    fn values(self) -> Values {
+        match self {
+            Ok(given) => given.values(),
+            Err(refusal) => refusal.values(),
+        }
     }
 }
 
-pub fn response_values(answer: ResponseAnswer) -> Values
-    ensures { result ≡ response_values answer }
-{
-    match answer {
-        ResponseAnswer::Accepted(n, sw1, sw2) => given(0, n, status_word(sw1, sw2)),
-        ResponseAnswer::Refused(refusal) => refusal_values(refusal),
+// The length of a field or of an APDU.
+impl HasValues for usize {
+    ghost values = { length_values };
+
+    fn values(self) -> Values {
+        given(0, self, 0)
     }
 }
 
-pub fn fragment_values(answer: FragmentAnswer) -> Values
-    ensures { result ≡ fragment_values answer }
-{
-    match answer {
-        FragmentAnswer::Fragment(n) => given(0, n, 0),
-        FragmentAnswer::Refused(refusal) => refusal_values(refusal),
+impl HasValues for AcceptedCommand {
+    ghost values = { accepted_command_values };
+
+    fn values(self) -> Values {
+        Values {
+            le: self.le,
+            ..given(0, self.len, 0)
+        }
     }
 }
 
-pub fn reassembly_values(answer: ReassemblyAnswer) -> Values
-    ensures { result ≡ reassembly_values answer }
-{
-    match answer {
-        ReassemblyAnswer::More(n, sw1, sw2) => given(0, n, status_word(sw1, sw2)),
-        ReassemblyAnswer::Whole(n, ins, p1, p2) => Values {
-            number: 0,
-            len: n,
-            status: 0,
-            le: false,
-            ins,
-            p1,
-            p2,
-            next: 0,
-        },
-        ReassemblyAnswer::Refused(refusal) => refusal_values(refusal),
+impl HasValues for AcceptedResponse {
+    ghost values = { accepted_response_values };
+
+    fn values(self) -> Values {
+        given(0, self.len, self.status.number())
     }
 }
 
-pub fn response_fragment_values(answer: ResponseFragmentAnswer) -> Values
-    ensures { result ≡ response_fragment_values answer }
-{
-    match answer {
-        ResponseFragmentAnswer::Fragment(n, next) => Values {
-            number: 0,
-            len: n,
-            status: 0,
-            le: false,
-            ins: 0,
-            p1: 0,
-            p2: 0,
-            next,
-        },
-        ResponseFragmentAnswer::Refused(refusal) => refusal_values(refusal),
+impl HasValues for CommandPart {
+    ghost values = { command_part_values };
+
+    fn values(self) -> Values {
+        match self {
+            CommandPart::More(n, status) => given(0, n, status.number()),
+            CommandPart::Whole(n, header) => Values {
+                header,
+                ..given(0, n, 0)
+            },
+        }
     }
 }
 
-pub fn response_reassembly_values(answer: ResponseReassemblyAnswer) -> Values
-    ensures { result ≡ response_reassembly_values answer }
-{
-    match answer {
-        ResponseReassemblyAnswer::More(n, le) => given(0, n, status_word(MORE_SW1, le)),
-        ResponseReassemblyAnswer::Whole(n, sw1, sw2) => given(0, n, status_word(sw1, sw2)),
-        ResponseReassemblyAnswer::Refused(refusal) => refusal_values(refusal),
+impl HasValues for ResponseFragment {
+    ghost values = { given_fragment_values };
+
+    fn values(self) -> Values {
+        Values {
+            next: self.next,
+            ..given(0, self.len, 0)
+        }
+    }
+}
+
+impl HasValues for ResponsePart {
+    ghost values = { response_part_values };
+
+    fn values(self) -> Values {
+        match self {
+            ResponsePart::More(n, le) => {
+                let status = StatusWord {
+                    sw1: MORE_SW1,
+                    sw2: le,
+                };
+                given(0, n, status.number())
+            }
+            ResponsePart::Whole(n, status) => given(0, n, status.number()),
+        }
     }
 }

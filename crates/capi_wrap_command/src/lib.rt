@@ -5,12 +5,13 @@ ghost use Rattle.std.specs.Prelude.{◌≡◌};
 ghost use Rattle.octets.specs.Bytes.{IsBytes};
 ghost use Rattle.capi_wrap_command.specs.Call.{given, left, pivsm_wrap_command};
 
+use apdu::Header;
 use capi_session::{replace_session, session_in};
-use capi_values::{refusal_values, wrap_values};
-use message_wrap_command::wrap_command_with_valid_session;
-use session_bytes::Decoding;
+use capi_values::HasValues;
+use message_wrap_command::wrap_command;
 
 // Refusals 16, 1, 2, 3, 4, 5 and 6. `bytes` is what the types say of the arguments; the demands use it.
+// INS, P1 and P2 are parameters of their own, since c/include/pivsm.h has them so.
 pub fn pivsm_wrap_command(
     session: &mut [u8],
     len: &mut usize,
@@ -28,23 +29,16 @@ pub fn pivsm_wrap_command(
         payload.now field.old) }
     ensures bytes { IsBytes session.old × IsBytes payload.now }
 {
-    let decoded = session_in(session, *len);
-    let read = decoded.answer;
-    let held = decoded.session;
-    match read {
-        Decoding::Decoded => {
-            let result = wrap_command_with_valid_session(held, ins, p1, p2, le, payload, field);
-            let answer = result.answer;
-            let next = result.session;
-            let values = wrap_values(answer);
-            replace_session(values.number, next, session, len);
-            *written = values.len;
-            values.number
+    let header = Header { ins, p1, p2 };
+    let values = match session_in(session, *len) {
+        Ok(held) => {
+            let result = wrap_command(held, header, le, payload, field);
+            let values = result.answer.values();
+            replace_session(values.number, result.next, session, len);
+            values
         }
-        Decoding::Refused(refusal) => {
-            let values = refusal_values(refusal);
-            *written = values.len;
-            values.number
-        }
-    }
+        Err(refusal) => refusal.values(),
+    };
+    *written = values.len;
+    values.number
 }

@@ -1,12 +1,13 @@
 -- pivsm_wrap_response of c/include/pivsm.h: the card's wrap, with the session that the caller's bytes hold.
 use Rattle.std.specs.Prelude.{ℕ, length}
 use Rattle.octets.specs.Bytes.{Bytes}
+use Rattle.apdu.specs.Apdu.{status_of}
 use Rattle.message_answer.specs.Answer.{buffer}
 use Rattle.message_answer.specs.Message.{Response}
 use Rattle.message_ciphers.specs.Aes.{aes_ciphers}
 use Rattle.message_protocol.specs.Response.{card_wraps}
 use Rattle.message_result.specs.Results.{wrap_answer}
-use Rattle.capi_values.specs.Values.{status_of, wrap_values}
+use Rattle.capi_values.specs.Values.{wrap_values}
 use Rattle.capi_session.specs.SessionBytes.{Served, Held, held_in, on_session}
 
 -- what the call is given: the session's buffer and length, the response with its data, and the caller's buffer

@@ -5,12 +5,13 @@ ghost use Rattle.std.specs.Prelude.{◌≡◌};
 ghost use Rattle.octets.specs.Bytes.{IsBytes};
 ghost use Rattle.capi_wrap_response.specs.Call.{given, left, pivsm_wrap_response};
 
+use apdu::StatusWord;
 use capi_session::{replace_session, session_in};
-use capi_values::{refusal_values, wrap_values};
-use message_wrap_response::wrap_response_with_valid_session;
-use session_bytes::Decoding;
+use capi_values::HasValues;
+use message_wrap_response::wrap_response;
 
 // Refusals 16, 1, 2, 3, 4 and 6. `bytes` is what the types say of the arguments; the demands use it.
+// The status word is a number, since c/include/pivsm.h has it so.
 pub fn pivsm_wrap_response(
     session: &mut [u8],
     len: &mut usize,
@@ -25,25 +26,16 @@ pub fn pivsm_wrap_response(
         payload.now field.old) }
     ensures bytes { IsBytes session.old × IsBytes payload.now }
 {
-    let sw1 = (sw / 256) as u8;
-    let sw2 = (sw % 256) as u8;
-    let decoded = session_in(session, *len);
-    let read = decoded.answer;
-    let held = decoded.session;
-    match read {
-        Decoding::Decoded => {
-            let result = wrap_response_with_valid_session(held, sw1, sw2, payload, field);
-            let answer = result.answer;
-            let next = result.session;
-            let values = wrap_values(answer);
-            replace_session(values.number, next, session, len);
-            *written = values.len;
-            values.number
+    let status = StatusWord::from(sw);
+    let values = match session_in(session, *len) {
+        Ok(held) => {
+            let result = wrap_response(held, status, payload, field);
+            let values = result.answer.values();
+            replace_session(values.number, result.next, session, len);
+            values
         }
-        Decoding::Refused(refusal) => {
-            let values = refusal_values(refusal);
-            *written = values.len;
-            values.number
-        }
-    }
+        Err(refusal) => refusal.values(),
+    };
+    *written = values.len;
+    values.number
 }

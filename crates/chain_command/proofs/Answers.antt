@@ -8,17 +8,19 @@ use Prim.Native.Nat.{ℕ}
 use lib.ListN.{length}
 use Rattle.octets.specs.Bytes.{Bytes, zeros}
 use Rattle.octets.specs.Write.{put}
+use Rattle.std.specs.Prelude.{Result, Ok, Err}
+use Rattle.apdu.specs.declared.Header.{Header}
+use Rattle.apdu.specs.Apdu.{header}
+use Rattle.refusal.specs.declared.Refusal.{Refusal}
 use Rattle.refusal.specs.Refusal.{number, extra}
 use Rattle.refusal.specs.declared.Refusal.TheVariants.{FragmentTooLong}
 use Rattle.message_answer.specs.Answer.{Answer, refused, gave, require◌else◌⨾◌}
-use Rattle.chain_command.specs.Apdu.{Header, header, fragment_apdu, is_chained, is_last, well_formed}
+use Rattle.chain_command.specs.Apdu.{fragment_apdu, is_chained, is_last, well_formed}
 use Rattle.chain_command.specs.Fragment.{fragment_size, fragment_count, fragment, fragment_command, fragment_answer}
-use Rattle.chain_command.specs.Reassembly.{empty, chain, possible, continues, reassembly_checks, taken, concluded, reassemble_command, written, reassembly_buffer}
-use Rattle.chain_command.specs.declared.FragmentAnswer.TheVariants.{Fragment, Refused as NotFragmented}
+use Rattle.chain_command.specs.Reassembly.{Reassembly, empty, chain, possible, continues, reassembly_checks, taken, concluded, reassemble_command, written, reassembly_buffer}
 use Rattle.chain_command.specs.declared.CommandChain.{CommandChain}
-use Rattle.chain_command.specs.declared.ReassemblyAnswer.{ReassemblyAnswer}
-use Rattle.chain_command.specs.declared.ReassemblyAnswer.TheVariants.{More, Whole, Refused}
-use Rattle.chain_command.specs.declared.Reassembly.{Reassembly}
+use Rattle.chain_command.specs.declared.CommandPart.{CommandPart}
+use Rattle.chain_command.specs.declared.CommandPart.TheVariants.{More, Whole}
 
 -- ---- fragmenting: number and extra of a refusal, or 0 and the length of the APDU
 
@@ -64,18 +66,18 @@ fragment_bytes :
 unfolding fragment_command require◌else◌⨾◌ fragment_size fragment_count fragment fragment_apdu
 fragment_bytes = refl
 
-fragment_given : fragment_answer (gave (1 ∷ 2 ∷ 3 ∷ [])) ∷ fragment_answer (refused FragmentTooLong) ∷ [] ≡ Fragment 3 ∷ NotFragmented FragmentTooLong ∷ []
+fragment_given : fragment_answer (gave (1 ∷ 2 ∷ 3 ∷ [])) ∷ fragment_answer (refused FragmentTooLong) ∷ [] ≡ Ok 3 ∷ Err FragmentTooLong ∷ []
 fragment_given = refl
 
 -- ---- reassembling: the answer's numbers, and the chain
 
-answer : ReassemblyAnswer → List ℕ
-answer (More n sw1 sw2) = 0 ∷ n ∷ sw1 ∷ sw2 ∷ []
-answer (Whole n ins p1 p2) = 0 ∷ n ∷ ins ∷ p1 ∷ p2 ∷ []
-answer (Refused q) = number q ∷ extra q ∷ []
+answer : Result CommandPart Refusal → List ℕ
+answer (Ok (More n sw)) = 0 ∷ n ∷ sw.sw1 ∷ sw.sw2 ∷ []
+answer (Ok (Whole n w)) = 0 ∷ n ∷ w.ins ∷ w.p1 ∷ w.p2 ∷ []
+answer (Err q) = number q ∷ extra q ∷ []
 
 answered : Reassembly → List ℕ
-answered r = answer r.answer ++ r.chain.len ∷ r.chain.ins ∷ r.chain.p1 ∷ r.chain.p2 ∷ []
+answered r = answer r.answer ++ r.next.len ∷ r.next.header.ins ∷ r.next.header.p1 ∷ r.next.header.p2 ∷ []
 
 -- an APDU with one byte of data: more follow, and it is the last
 more : ℕ → ℕ → ℕ → Bytes

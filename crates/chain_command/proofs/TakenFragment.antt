@@ -10,7 +10,8 @@ use Rattle.octets.specs.Bytes.{Bytes}
 use Rattle.octets.specs.Write.{put}
 use Rattle.message_answer.specs.Message.{max_command_field}
 use Rattle.message_answer.specs.Answer.{gave, require◌else◌⨾◌}
-use Rattle.chain_command.specs.Apdu.{Header, fragment_apdu, header_of, well_formed}
+use Rattle.apdu.specs.declared.Header.{Header}
+use Rattle.chain_command.specs.Apdu.{fragment_apdu, header_of, well_formed}
 use Rattle.chain_command.specs.Reassembly.{possible, continues, total, reassembly_checks, taken, concluded, reassemble_command, written, reassembly_buffer}
 use Rattle.chain_command.specs.declared.CommandChain.{CommandChain}
 use Rattle.chain_command.proofs.WrittenApdu.{written_header, written_lc, written_data, written_last, written_well_formed}

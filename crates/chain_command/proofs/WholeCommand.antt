@@ -6,29 +6,33 @@ use mathlib.Core.List.{List, [], ◌∷◌, ◌++◌}
 use Prim.Native.Nat.{ℕ, zero, suc, ◌+◌, ◌*◌, ◌-◌, ◌≤◌, ◌<◌}
 use native.Mathlib.Nat.{add-zero, zero-add, add-suc, suc-add, zero-mul, suc-mul}
 use native.Mathlib.Omega.{arith}
-use borrow.Author.Tests.{eq-eqb, ne_eqb, le-leb}
+use borrow.Author.Tests.{eq-eqb, ne_eqb}
 use lib.ListN.{length, take, drop, length-drop, take-append-drop}
 use lib.Seq.{length-take-le, take_all, take-add}
 use Rattle.octets.specs.Bytes.{Bytes, tabulate}
 use Rattle.octets.specs.Write.{over, put}
 use Rattle.octets.proofs.Tabulate.{tabulate_ext}
 use Rattle.octets.proofs.Writing.{over_nil, length_over, put_over}
+use Rattle.std.specs.Prelude.{Result, Ok}
+use Rattle.apdu.specs.declared.Header.{Header}
+use Rattle.apdu.specs.Apdu.{status}
+use Rattle.refusal.specs.declared.Refusal.{Refusal}
 use Rattle.message_answer.specs.Message.{max_command_field}
-use Rattle.chain_command.specs.Apdu.{Header, fragment_apdu}
+use Rattle.chain_command.specs.Apdu.{fragment_apdu}
 use Rattle.chain_command.specs.Fragment.{longest_field, max_fragment, fragment_size, fragment_count, fragment}
-use Rattle.chain_command.specs.Reassembly.{empty, chain, possible, continues, taken, reassemble_command, reassembly_buffer}
+use Rattle.chain_command.specs.Reassembly.{Reassembly, empty, chain, possible, continues, taken, reassemble_command, reassembly_buffer}
 use Rattle.chain_command.specs.Chains.{fragments, Reassembled, reassemble_all, answers_to, Reassembles}
 use Rattle.chain_command.specs.declared.CommandChain.{CommandChain}
-use Rattle.chain_command.specs.declared.Reassembly.{Reassembly}
-use Rattle.chain_command.specs.declared.ReassemblyAnswer.{ReassemblyAnswer}
-use Rattle.chain_command.specs.declared.ReassemblyAnswer.TheVariants.{More, Whole}
+use Rattle.chain_command.specs.declared.CommandPart.{CommandPart}
+use Rattle.chain_command.specs.declared.CommandPart.TheVariants.{More, Whole}
 use Rattle.chain_parts.proofs.Ceiling.{starts_within, below_ceiling, ends_with_last}
 use Rattle.chain_command.proofs.Sizes.{sized}
+use Rattle.chain_command.proofs.PossibleChains.{possible_some, follows_itself}
 use Rattle.chain_command.proofs.TakenFragment.{taken_answer, taken_data}
 
 -- one APDU, and the rest
 one_more : (c : CommandChain) (held apdu : Bytes) (apdus : List Bytes) (r : Reassembly) (next : Bytes) (rest : Reassembled)
-    → reassemble_command c apdu (length held) ≡ r → reassembly_buffer c apdu held ≡ next → reassemble_all r.chain next apdus ≡ rest
+    → reassemble_command c apdu (length held) ≡ r → reassembly_buffer c apdu held ≡ next → reassemble_all r.next next apdus ≡ rest
     → reassemble_all c held (apdu ∷ apdus) ≡ record { answers = r.answer ∷ rest.answers; chain = rest.chain; held = rest.held }
 unfolding reassemble_all
 one_more c held apdu apdus r next rest e f g = rw (e, f, g)
@@ -61,13 +65,7 @@ unfolding possible continues
 holds_none h = record { len = refl; led = refl; follows = refl }
 
 holds_some : (h : Header) (n : ℕ) → 1 ≤ n → n ≤ max_command_field → Holds h n (chain h n)
-unfolding possible continues
-holds_some h n some short =
-    record {
-      len = refl;
-      led = rw (ne_eqb n 0 (λ e. omega arith), le-leb n max_command_field short);
-      follows = rw (ne_eqb n 0 (λ e. omega arith), eq-eqb h.ins h.ins refl, eq-eqb h.p1 h.p1 refl, eq-eqb h.p2 h.p2 refl);
-    }
+holds_some h n some short = record { len = refl; led = possible_some h n some short; follows = follows_itself h n some }
 
 module _ (h : Header) (field : Bytes) (p : ℕ) (held : Bytes) (short : length field ≤ longest_field) (asked : p ≤ max_fragment)
     (fits : length field ≤ length held) where
@@ -75,7 +73,7 @@ module _ (h : Header) (field : Bytes) (p : ℕ) (held : Bytes) (short : length f
   abbrev left : ℕ → ℕ → Reassembled
   left m k =
       record {
-        answers = tabulate m (λ i. More (suc (k + i) * fragment_size p) 0x90 0x00) ++ Whole (length field) h.ins h.p1 h.p2 ∷ [];
+        answers = tabulate m (λ i. Ok (More (suc (k + i) * fragment_size p) (status 0x90 0x00))) ++ Ok (Whole (length field) h) ∷ [];
         chain = empty;
         held = over held field;
       }
@@ -99,7 +97,7 @@ module _ (h : Header) (field : Bytes) (p : ℕ) (held : Bytes) (short : length f
     -- a fragment with the data d
     taken_then : (d : Bytes) (last : Bool) (apdus : List Bytes) (rest : Reassembled) → 1 ≤ length d → length d ≤ 255
         → k * fragment_size p + length d ≤ length field
-        → reassemble_all (taken h (k * fragment_size p + length d) last).chain (over held (take (k * fragment_size p) field ++ d)) apdus ≡ rest
+        → reassemble_all (taken h (k * fragment_size p + length d) last).next (over held (take (k * fragment_size p) field ++ d)) apdus ≡ rest
         → reassemble_all c (over held (take (k * fragment_size p) field)) (fragment_apdu last h d ∷ apdus)
         ≡ record { answers = (taken h (k * fragment_size p + length d) last).answer ∷ rest.answers; chain = rest.chain; held = rest.held }
     taken_then d last apdus rest some small whole g =
@@ -122,7 +120,7 @@ module _ (h : Header) (field : Bytes) (p : ℕ) (held : Bytes) (short : length f
         ap (λ (apdu : Bytes). reassemble_all c (over held (take (k * fragment_size p) field)) (apdu ∷ [])) (fragment_is_last h field p k e (ends k e))
         ∙ taken_then d true [] (record { answers = []; chain = empty; held = over held field }) (omega arith) (omega (arith, ends k e, z.small)) (omega arith)
         (ap (λ (b : Bytes). record { answers = []; chain = empty; held = over held b }) (take-append-drop (k * fragment_size p) field))
-        ∙ ap (λ (m : ℕ). record { answers = Whole m h.ins h.p1 h.p2 ∷ []; chain = empty; held = over held field }) e1
+        ∙ ap (λ (m : ℕ). record { answers = Ok (Whole m h) ∷ []; chain = empty; held = over held field }) e1
 
     next_one : (apdus : List Bytes) (m : ℕ) → suc k < fragment_count (length field) p
         → reassemble_all (chain h (suc k * fragment_size p)) (over held (take (suc k * fragment_size p) field)) apdus ≡ left m (suc k)
@@ -139,9 +137,9 @@ module _ (h : Header) (field : Bytes) (p : ℕ) (held : Bytes) (short : length f
         ap (λ (apdu : Bytes). reassemble_all c (over held (take (k * s) field)) (apdu ∷ apdus)) (fragment_is_chained h field p k l)
         ∙ taken_then d false apdus (left m (suc k)) (omega (arith, z.positive)) (omega (arith, z.small)) (omega arith)
         (ap₂ (λ (n : ℕ) (b : Bytes). reassemble_all (chain h n) (over held b) apdus) total bytes ∙ g)
-        ∙ ap₂ (λ (n : ℕ) (l : List ReassemblyAnswer). record { answers = More n 0x90 0x00 ∷ l ++ Whole (length field) h.ins h.p1 h.p2 ∷ []; chain = empty; held = over held field })
+        ∙ ap₂ (λ (n : ℕ) (l : List (Result CommandPart Refusal)). record { answers = Ok (More n (status 0x90 0x00)) ∷ l ++ Ok (Whole (length field) h) ∷ []; chain = empty; held = over held field })
         (total ∙ ap (λ (j : ℕ). suc j * s) (sym (add-zero k)))
-        (tabulate_ext m (λ i b. ap (λ (j : ℕ). More (suc j * s) 0x90 0x00) (suc-add k i ∙ sym (add-suc k i))))
+        (tabulate_ext m (λ i b. ap (λ (j : ℕ). Ok (More (suc j * s) (status 0x90 0x00))) (suc-add k i ∙ sym (add-suc k i))))
 
   go : (m k : ℕ) (c : CommandChain) → k + suc m ≡ fragment_count (length field) p → Holds h (k * fragment_size p) c
       → reassemble_all c (over held (take (k * fragment_size p) field)) (tabulate (suc m) (λ i. fragment h field p (k + i))) ≡ left m k
@@ -174,5 +172,5 @@ reassembles h field p held some short asked fits =
     ap₂ (λ (b : Bytes) (apdus : List Bytes). reassemble_all empty b apdus) (sym (ap (over held) none ∙ over_nil held))
     (ap (λ (m : ℕ). tabulate m (fragment h field p)) count ∙ tabulate_ext (suc (n - 1)) (λ i b. ap (fragment h field p) (sym (zero-add i))))
     ∙ go h field p held short asked fits (n - 1) 0 empty (zero-add (suc (n - 1)) ∙ sym count) (subst (λ (k : ℕ). Holds h k empty) (sym (zero-mul s)) (holds_none h))
-    ∙ ap (λ (l : List ReassemblyAnswer). record { answers = l ++ Whole (length field) h.ins h.p1 h.p2 ∷ []; chain = empty; held = over held field })
-    (tabulate_ext (n - 1) (λ i b. ap (λ (j : ℕ). More (suc j * s) 0x90 0x00) (zero-add i)))
+    ∙ ap (λ (l : List (Result CommandPart Refusal)). record { answers = l ++ Ok (Whole (length field) h) ∷ []; chain = empty; held = over held field })
+    (tabulate_ext (n - 1) (λ i b. ap (λ (j : ℕ). Ok (More (suc j * s) (status 0x90 0x00))) (zero-add i)))

@@ -10,7 +10,8 @@ use lib.ListN.{length, length-append}
 use lib.Seq.{take-length, take-append_seam, get_or_at}
 use Rattle.octets.specs.Bytes.{Bytes}
 use Rattle.octets.proofs.Tests.{and_intro}
-use Rattle.chain_command.specs.Apdu.{Header, last_cla, chained_cla, command_apdu, fragment_apdu, header_of, lc, data_of, is_chained, is_last, well_formed}
+use Rattle.apdu.specs.declared.Header.{Header}
+use Rattle.chain_command.specs.Apdu.{last_cla, chained_cla, command_apdu, fragment_apdu, header_of, lc, data_of, is_chained, is_last, well_formed}
 
 module _ (h : Header) (d : Bytes) where
   pub written_header : (last : Bool) → header_of (fragment_apdu last h d) ≡ h

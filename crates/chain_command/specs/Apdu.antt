@@ -3,15 +3,8 @@
 use Rattle.std.specs.Prelude.{Bool, ◌&&◌, ◌||◌, [], ◌∷◌, ◌++◌, ℕ, ◌+◌, eqb, leb, length, get_or, take, drop}
 use Rattle.octets.specs.Bytes.{Bytes}
 use Rattle.std.specs.Prelude.{if◌then◌else◌}
-
--- INS, P1, P2
-pub record Header : Type 0 where
-  pub ins : ℕ
-  pub p1 : ℕ
-  pub p2 : ℕ
-
-abbrev pub header : ℕ → ℕ → ℕ → Header
-header ins p1 p2 = record { ins = ins; p1 = p1; p2 = p2 }
+use Rattle.apdu.specs.declared.Header.{Header}
+use Rattle.apdu.specs.Apdu.{header}
 
 -- CLA of secure messaging, and the same with the bit of command chaining
 abbrev pub last_cla : ℕ

@@ -1,15 +1,19 @@
 -- Rules 7.1, 7.3 and 7.5: all the fragments of a command field, one after another, and the chains that fragments can lead to.
-use Rattle.std.specs.Prelude.{◌≡◌, Bool, true, false, List, [], ◌∷◌, ◌++◌, ℕ, suc, ◌*◌, ◌-◌, ◌≤◌, length}
+use Rattle.std.specs.Prelude.{◌≡◌, Result, Ok, Err, Bool, true, false, List, [], ◌∷◌, ◌++◌, ℕ, suc, ◌*◌, ◌-◌, ◌≤◌, length}
 use Rattle.octets.specs.Bytes.{Bytes, tabulate}
 use Rattle.std.specs.Prelude.{if◌then◌else◌}
 use Rattle.octets.specs.Write.{over}
+use Rattle.apdu.specs.declared.Header.{Header}
+use Rattle.apdu.specs.declared.StatusWord.{StatusWord}
+use Rattle.apdu.specs.Apdu.{status}
+use Rattle.refusal.specs.declared.Refusal.{Refusal}
 use Rattle.refusal.specs.declared.Refusal.TheVariants.{Malformed, BrokenChain}
-use Rattle.chain_command.specs.Apdu.{Header, fragment_apdu, header_of, data_of, is_last, well_formed}
+use Rattle.chain_command.specs.Apdu.{fragment_apdu, header_of, data_of, is_last, well_formed}
 use Rattle.chain_command.specs.Fragment.{longest_field, max_fragment, fragment_size, fragment_count, fragment}
 use Rattle.chain_command.specs.Reassembly.{empty, possible, reassemble_command, reassembly_buffer}
 use Rattle.chain_command.specs.declared.CommandChain.{CommandChain}
-use Rattle.chain_command.specs.declared.ReassemblyAnswer.{ReassemblyAnswer}
-use Rattle.chain_command.specs.declared.ReassemblyAnswer.TheVariants.{More, Whole, Refused}
+use Rattle.chain_command.specs.declared.CommandPart.{CommandPart}
+use Rattle.chain_command.specs.declared.CommandPart.TheVariants.{More, Whole}
 
 -- ---- the APDUs that are taken
 
@@ -30,7 +34,7 @@ fragments h field p = tabulate (fragment_count (length field) p) (fragment h fie
 
 -- the answers to APDUs, the chain that they leave, and the caller's buffer
 pub record Reassembled : Type 0 where
-  pub answers : List ReassemblyAnswer
+  pub answers : List (Result CommandPart Refusal)
   pub chain : CommandChain
   pub held : Bytes
 
@@ -39,13 +43,13 @@ unfoldable pub reassemble_all : CommandChain → Bytes → List Bytes → Reasse
 reassemble_all c held [] = record { answers = []; chain = c; held = held }
 reassemble_all c held (apdu ∷ apdus) =
     let first = reassemble_command c apdu (length held) in
-    let rest = reassemble_all first.chain (reassembly_buffer c apdu held) apdus in
+    let rest = reassemble_all first.next (reassembly_buffer c apdu held) apdus in
     record { answers = first.answer ∷ rest.answers; chain = rest.chain; held = rest.held }
 
 -- 90 00 to each fragment but the last, which gives the field's length and the header
-unfoldable pub answers_to : Header → ℕ → ℕ → List ReassemblyAnswer
+unfoldable pub answers_to : Header → ℕ → ℕ → List (Result CommandPart Refusal)
 answers_to h n p =
-    tabulate (fragment_count n p - 1) (λ k. More (suc k * fragment_size p) 0x90 0x00) ++ Whole n h.ins h.p1 h.p2 ∷ []
+    tabulate (fragment_count n p - 1) (λ k. Ok (More (suc k * fragment_size p) (status 0x90 0x00))) ++ Ok (Whole n h) ∷ []
 
 -- the fragments of every field, of every size that may be asked for: the field, the header, and an empty chain
 abbrev pub Reassembles : Type 0
@@ -59,12 +63,12 @@ Reassembles =
 
 pub data Reached : CommandChain → Type 0 where
   none : Reached empty
-  more : (c : CommandChain) (apdu : Bytes) (room n sw1 sw2 : ℕ) → Reached c → (reassemble_command c apdu room).answer ≡ More n sw1 sw2
-      → Reached (reassemble_command c apdu room).chain
+  more : (c : CommandChain) (apdu : Bytes) (room n : ℕ) (sw : StatusWord) → Reached c → (reassemble_command c apdu room).answer ≡ Ok (More n sw)
+      → Reached (reassemble_command c apdu room).next
 
 -- every call leaves a possible chain, whatever it was given
 abbrev pub LeavesPossible : Type 0
-LeavesPossible = (c : CommandChain) (apdu : Bytes) (room : ℕ) → possible (reassemble_command c apdu room).chain ≡ true
+LeavesPossible = (c : CommandChain) (apdu : Bytes) (room : ℕ) → possible (reassemble_command c apdu room).next ≡ true
 
 -- the chains that are reached are the possible ones
 abbrev pub ReachedArePossible : Type 0
@@ -77,4 +81,4 @@ PossibleAreReached = (c : CommandChain) → possible c ≡ true → Reached c
 abbrev pub OthersAreRefused : Type 0
 OthersAreRefused =
     (c : CommandChain) (apdu : Bytes) (room : ℕ) → possible c ≡ false
-    → (reassemble_command c apdu room).answer ≡ Refused (if well_formed apdu then BrokenChain else Malformed)
+    → (reassemble_command c apdu room).answer ≡ Err (if well_formed apdu then BrokenChain else Malformed)

@@ -1,14 +1,14 @@
 -- Rule 7.1: one fragment of a command field (fragmenting is also called "cutting"). The size that is asked for decides how many there are;
 -- they are numbered from 0.
-use Rattle.std.specs.Prelude.{ℕ, suc, ◌*◌, eqb, leb, ltb, length, take, drop}
+use Rattle.std.specs.Prelude.{Result, Ok, Err, ℕ, suc, ◌*◌, eqb, leb, ltb, length, take, drop}
 use Rattle.octets.specs.Bytes.{Bytes}
 use Rattle.std.specs.Prelude.{if◌then◌else◌}
 use Rattle.chain_parts.specs.Parts.{ceiling}
+use Rattle.apdu.specs.declared.Header.{Header}
+use Rattle.refusal.specs.declared.Refusal.{Refusal}
 use Rattle.refusal.specs.declared.Refusal.TheVariants.{TooLong, BufferTooSmall, BrokenChain, FragmentTooLong}
 use Rattle.message_answer.specs.Answer.{Answer, refused, gave, require◌else◌⨾◌}
-use Rattle.chain_command.specs.Apdu.{Header, fragment_apdu}
-use Rattle.chain_command.specs.declared.FragmentAnswer.{FragmentAnswer}
-use Rattle.chain_command.specs.declared.FragmentAnswer.TheVariants.{Fragment, Refused}
+use Rattle.chain_command.specs.Apdu.{fragment_apdu}
 
 -- the longest field that is wrapped; how long a field may be that is read is another limit
 abbrev pub longest_field : ℕ
@@ -42,6 +42,6 @@ fragment_command h field p k room =
     gave (fragment h field p k)
 
 -- as the function gives it: the APDU stands in the caller's buffer
-abbrev pub fragment_answer : Answer Bytes → FragmentAnswer
-fragment_answer (refused r) = Refused r
-fragment_answer (gave apdu) = Fragment (length apdu)
+abbrev pub fragment_answer : Answer Bytes → Result ℕ Refusal
+fragment_answer (refused r) = Err r
+fragment_answer (gave apdu) = Ok (length apdu)

@@ -1,29 +1,39 @@
 -- Rules 7.3 to 7.5: a command field is put together again from its fragments (reassembling is also called "joining").
-use Rattle.std.specs.Prelude.{Bool, ◌&&◌, ◌||◌, ℕ, ◌+◌, eqb, leb, length}
+use Rattle.std.specs.Prelude.{Ok, Err, Bool, ◌&&◌, ◌||◌, ℕ, ◌+◌, eqb, leb, length}
 use Rattle.octets.specs.Bytes.{Bytes}
 use Rattle.std.specs.Prelude.{if◌then◌else◌}
 use Rattle.octets.specs.Write.{put}
+use Rattle.apdu.specs.declared.Header.{Header}
+use Rattle.apdu.specs.Apdu.{header, status}
+use Rattle.refusal.specs.declared.Answered.{Answered}
 use Rattle.refusal.specs.declared.Refusal.TheVariants.{TooLong, BufferTooSmall, Malformed, BrokenChain}
 use Rattle.message_answer.specs.Message.{max_command_field}
 use Rattle.message_answer.specs.Answer.{Answer, refused, gave, require◌else◌⨾◌}
-use Rattle.chain_command.specs.Apdu.{Header, header_of, lc, data_of, is_last, well_formed}
+use Rattle.chain_command.specs.Apdu.{header_of, lc, data_of, is_last, well_formed}
 use Rattle.chain_command.specs.declared.CommandChain.{CommandChain}
-use Rattle.chain_command.specs.declared.ReassemblyAnswer.TheVariants.{More, Whole, Refused}
-use Rattle.chain_command.specs.declared.Reassembly.{Reassembly}
+use Rattle.chain_command.specs.declared.CommandPart.{CommandPart}
+use Rattle.chain_command.specs.declared.CommandPart.TheVariants.{More, Whole}
 
-abbrev pub empty : CommandChain
-empty = record { len = 0; ins = 0; p1 = 0; p2 = 0 }
+-- what reassembling answers, and the chain that it leaves
+abbrev pub Reassembly : Type 0
+Reassembly = Answered CommandPart CommandChain
 
 abbrev pub chain : Header → ℕ → CommandChain
-chain h n = record { len = n; ins = h.ins; p1 = h.p1; p2 = h.p2 }
+chain h n = record { len = n; header = h }
+
+abbrev pub empty : CommandChain
+empty = chain (header 0 0 0) 0
+
+abbrev pub same_header : Header → Header → Bool
+same_header a b = eqb a.ins b.ins && eqb a.p1 b.p1 && eqb a.p2 b.p2
 
 -- fragments could have led to it
 unfoldable pub possible : CommandChain → Bool
-possible c = if eqb c.len 0 then eqb c.ins 0 && eqb c.p1 0 && eqb c.p2 0 else leb c.len max_command_field
+possible c = if eqb c.len 0 then same_header c.header empty.header else leb c.len max_command_field
 
 -- the first fragment of a chain, or one with its INS, P1 and P2
 unfoldable pub continues : CommandChain → Header → Bool
-continues c h = eqb c.len 0 || (eqb h.ins c.ins && eqb h.p1 c.p1 && eqb h.p2 c.p2)
+continues c h = eqb c.len 0 || same_header h c.header
 
 -- the bytes of the field with this fragment's
 abbrev pub total : CommandChain → Bytes → ℕ
@@ -41,12 +51,12 @@ reassembly_checks c apdu room =
 unfoldable pub taken : Header → ℕ → Bool → Reassembly
 taken h n last =
     if last
-    then record { answer = Whole n h.ins h.p1 h.p2; chain = empty }
-    else record { answer = More n 0x90 0x00; chain = chain h n }
+    then record { answer = Ok (Whole n h); next = empty }
+    else record { answer = Ok (More n (status 0x90 0x00)); next = chain h n }
 
 -- "any refusal drops what was joined"
 unfoldable pub concluded : CommandChain → Bytes → Answer (Unit {0}) → Reassembly
-concluded c apdu (refused r) = record { answer = Refused r; chain = empty }
+concluded c apdu (refused r) = record { answer = Err r; next = empty }
 concluded c apdu (gave passed) = taken (header_of apdu) (total c apdu) (is_last apdu)
 
 unfoldable pub reassemble_command : CommandChain → Bytes → ℕ → Reassembly

@@ -7,7 +7,8 @@ use Prim.Native.Nat.{◌+◌}
 use native.Mathlib.Omega.{arith}
 use lib.ListN.{length, length-append}
 use Rattle.octets.specs.Bytes.{Bytes}
-use Rattle.chain_command.specs.Apdu.{Header, last_cla, chained_cla, command_apdu, fragment_apdu}
+use Rattle.apdu.specs.declared.Header.{Header}
+use Rattle.chain_command.specs.Apdu.{last_cla, chained_cla, command_apdu, fragment_apdu}
 
 module _ (last : Bool) (h : Header) (d : Bytes) where
   pub apdu_last : last ≡ true → fragment_apdu last h d ≡ command_apdu last_cla h d ++ 0x00 ∷ []

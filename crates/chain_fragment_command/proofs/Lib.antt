@@ -1,3 +1,2 @@
-pub mod FragmentCases
 pub mod Apdus
 pub mod Parts

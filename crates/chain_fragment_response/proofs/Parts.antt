@@ -5,33 +5,24 @@ use mathlib.Core.Bool.{Bool, true, false}
 use mathlib.Core.List.{[], ◌∷◌, ◌++◌}
 use Prim.Native.Nat.{ℕ, ◌+◌, ◌-◌, ◌≤◌}
 use native.Mathlib.Omega.{arith}
-use borrow.Author.Tests.{eq-eqb, ne_eqb}
 use lib.Dec.{eqb}
 use lib.ListN.{length, take, drop, length-append}
 use Rattle.octets.specs.Bytes.{Bytes}
 use Rattle.std.specs.Prelude.{if◌then◌else◌}
 use Rattle.chain_parts.proofs.PartEnds.{ends_within, part_bytes}
-use Rattle.message_answer.specs.Message.{StatusWord, more_sw1}
+use Rattle.apdu.specs.declared.StatusWord.{StatusWord}
+use Rattle.message_answer.specs.Message.{more_sw1}
 use Rattle.chain_response.specs.Fragment.{asked, announced, fragment_data, fragment_status, next, fragment}
 
 -- ---- the status word
 
-module _ (sw : StatusWord) (n : ℕ) where
-  pub status_last : n ≡ 0 → fragment_status sw n ≡ sw.sw1 ∷ sw.sw2 ∷ []
-  unfolding fragment_status
-  status_last e = rw (eq-eqb n 0 e)
-
-  pub status_more : (n ≡ 0 → ⊥) → fragment_status sw n ≡ more_sw1 ∷ announced n ∷ []
-  unfolding fragment_status
-  status_more e = rw (ne_eqb n 0 e)
-
-  length_status : length (fragment_status sw n) ≡ 2
-  unfolding fragment_status
-  length_status = go (eqb n 0)
-    where
-      go : (last : Bool) → length (if last then sw.sw1 ∷ sw.sw2 ∷ [] else (more_sw1 ∷ announced n ∷ [])) ≡ 2
-      go true = refl
-      go false = refl
+length_status : (sw : StatusWord) (n : ℕ) → length (fragment_status sw n) ≡ 2
+unfolding fragment_status
+length_status sw n = go (eqb n 0)
+  where
+    go : (last : Bool) → length (if last then sw.sw1 ∷ sw.sw2 ∷ [] else (more_sw1 ∷ announced n ∷ [])) ≡ 2
+    go true = refl
+    go false = refl
 
 -- ---- where the data ends
 

@@ -1,6 +1,6 @@
 -- Where a part ends: behind as many bytes as asked for, or with the string; and the bytes up to there are the part.
 use mathlib.Core.Path.{◌≡◌, sym, ap, ◌∙◌}
-use Prim.Native.Nat.{ℕ, ◌+◌, ◌-◌, ◌≤◌, ◌<◌}
+use Prim.Native.Nat.{ℕ, ◌-◌, ◌≤◌}
 use native.Mathlib.Omega.{arith}
 use lib.ListN.{length, take, drop, length-take, length-drop, take-append-drop}
 use lib.Seq.{take-append_seam}
@@ -11,12 +11,6 @@ take_its_length : (n : ℕ) (l : Bytes) → take (length (take n l)) l ≡ take 
 take_its_length n l = ap (take (length (take n l))) (sym (take-append-drop n l)) ∙ take-append_seam (take n l) (drop n l)
 
 module _ (bytes : Bytes) (start most : ℕ) where
-  pub full_part : start ≤ length bytes → most < length bytes - start → start + most ≡ part_end bytes start most
-  full_part within h = simp (length-take, length-drop) (omega arith)
-
-  pub rest_part : start ≤ length bytes → length bytes - start ≤ most → length bytes ≡ part_end bytes start most
-  rest_part within h = simp (length-take, length-drop) (omega arith)
-
   pub ends_within : start ≤ length bytes → part_end bytes start most ≤ length bytes
   ends_within within = simp (length-take, length-drop) (omega arith)
 

@@ -9,8 +9,5 @@ pub fn part_end(bytes: &[u8], start: usize, most: usize) -> usize
     requires { start ≤ length bytes.now }
     ensures { result ≡ part_end bytes.now start most }
 {
-    if most < bytes.len() - start {
-        return start + most;
-    }
-    bytes.len()
+    start + most.min(bytes.len() - start)
 }

@@ -1,3 +1,2 @@
 pub mod CommandCases
 pub mod Shapes
-pub mod CommandTests

@@ -1,19 +1,15 @@
--- A well-formed APDU holds the data that its Lc counts; one of fewer than five bytes is not well formed.
+-- A well-formed APDU holds the data that its Lc counts.
 use mathlib.Core.Path.{◌≡◌, refl}
 use mathlib.Core.Bool.{Bool, true, false, ◌&&◌, ◌||◌}
 use mathlib.Core.Logic.{◌⊎◌, inl, inr, ⊎_elim}
-use Prim.Native.Nat.{◌+◌, ◌≤◌, ◌<◌}
+use Prim.Native.Nat.{◌+◌, ◌≤◌}
 use native.Mathlib.Omega.{arith}
 use borrow.Author.Tests.{eqb-true}
 use lib.Dec.{eqb, leb}
-use lib.ListN.{length, get_or, get_or-eq_default}
+use lib.ListN.{length, get_or}
 use Rattle.octets.specs.Bytes.{Bytes}
 use Rattle.octets.proofs.Tests.{both}
 use Rattle.chain_command.specs.Apdu.{last_cla, chained_cla, cla, lc, is_chained, is_last, well_formed}
-
-pub short_malformed : (apdu : Bytes) → length apdu < 5 → well_formed apdu ≡ false
-unfolding well_formed
-short_malformed apdu h = rw (get_or-eq_default apdu 0 {n = 4} (omega arith))
 
 either : (a b : Bool) → (a || b) ≡ true → (a ≡ true) ⊎ (b ≡ true)
 either true b e = inl refl

@@ -1,2 +1,1 @@
 pub mod ResponseCases
-pub mod ResponseTests

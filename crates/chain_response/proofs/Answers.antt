@@ -7,17 +7,18 @@ use Prim.Native.Nat.{ℕ, ◌-◌}
 use lib.ListN.{length, drop}
 use Rattle.octets.specs.Bytes.{Bytes, zeros}
 use Rattle.octets.specs.Write.{put}
+use Rattle.std.specs.Prelude.{Result, Ok, Err}
+use Rattle.apdu.specs.declared.StatusWord.{StatusWord}
+use Rattle.apdu.specs.Apdu.{status}
+use Rattle.refusal.specs.declared.Refusal.{Refusal}
 use Rattle.refusal.specs.Refusal.{number, extra}
 use Rattle.refusal.specs.declared.Refusal.TheVariants.{NotPermitted}
-use Rattle.message_answer.specs.Message.{StatusWord, status}
 use Rattle.message_permission.specs.Permission.{status_permitted}
 use Rattle.message_answer.specs.Answer.{Answer, refused, gave, require◌else◌⨾◌}
 use Rattle.chain_response.specs.Fragment.{asked, announced, fragment_data, fragment_status, next, fragment, fragment_response, fragment_answer}
-use Rattle.chain_response.specs.Reassembly.{is_more, well_formed, chain, empty, possible, reassembly_checks, taken, concluded, reassemble_response, written, reassembly_buffer, get_response}
-use Rattle.chain_response.specs.declared.ResponseFragmentAnswer.TheVariants.{Fragment, Refused as NotFragmented}
-use Rattle.chain_response.specs.declared.ResponseReassemblyAnswer.{ResponseReassemblyAnswer}
-use Rattle.chain_response.specs.declared.ResponseReassemblyAnswer.TheVariants.{More, Whole, Refused}
-use Rattle.chain_response.specs.declared.ResponseReassembly.{ResponseReassembly}
+use Rattle.chain_response.specs.Reassembly.{ResponseReassembly, is_more, well_formed, chain, empty, possible, reassembly_checks, taken, concluded, reassemble_response, written, reassembly_buffer, get_response}
+use Rattle.chain_response.specs.declared.ResponsePart.{ResponsePart}
+use Rattle.chain_response.specs.declared.ResponsePart.TheVariants.{More, Whole}
 
 -- ---- fragmenting: number and extra of a refusal, or 0, the fragment's length and its status word
 
@@ -80,18 +81,18 @@ next_indices : next (1 ∷ 2 ∷ 3 ∷ 4 ∷ 5 ∷ []) 2 0x02 ∷ next (1 ∷ 2 
 unfolding next fragment_data asked
 next_indices = refl
 
-fragment_given : fragment_answer 4 (gave (1 ∷ 2 ∷ 3 ∷ [])) ∷ fragment_answer 4 (refused NotPermitted) ∷ [] ≡ Fragment 3 4 ∷ NotFragmented NotPermitted ∷ []
+fragment_given : fragment_answer 4 (gave (1 ∷ 2 ∷ 3 ∷ [])) ∷ fragment_answer 4 (refused NotPermitted) ∷ [] ≡ Ok (record { len = 3; next = 4 }) ∷ Err NotPermitted ∷ []
 fragment_given = refl
 
 -- ---- reassembling: the answer's numbers, and the chain
 
-answer : ResponseReassemblyAnswer → List ℕ
-answer (More n le) = 0 ∷ n ∷ le ∷ []
-answer (Whole n sw1 sw2) = 0 ∷ n ∷ sw1 ∷ sw2 ∷ []
-answer (Refused q) = number q ∷ extra q ∷ []
+answer : Result ResponsePart Refusal → List ℕ
+answer (Ok (More n le)) = 0 ∷ n ∷ le ∷ []
+answer (Ok (Whole n sw)) = 0 ∷ n ∷ sw.sw1 ∷ sw.sw2 ∷ []
+answer (Err q) = number q ∷ extra q ∷ []
 
 answered : ResponseReassembly → List ℕ
-answered r = answer r.answer ++ r.chain.len ∷ []
+answered r = answer r.answer ++ r.next.len ∷ []
 
 -- badly formed, also where the chain is impossible: no whole status word; 61 without data; over 256 bytes of data. Then an impossible chain, the limit, the room;
 -- taken, with more to come and whole, without data too

@@ -16,24 +16,27 @@ use Rattle.octets.specs.Write.{over, put}
 use Rattle.octets.proofs.ByteStrings.{by_test}
 use Rattle.octets.proofs.Tabulate.{tabulate_ext}
 use Rattle.octets.proofs.Writing.{over_nil, length_over, put_over}
-use Rattle.message_answer.specs.Message.{StatusWord, status, max_response_field, more_sw1}
+use Rattle.std.specs.Prelude.{Result, Ok}
+use Rattle.apdu.specs.declared.StatusWord.{StatusWord}
+use Rattle.apdu.specs.Apdu.{status}
+use Rattle.refusal.specs.declared.Refusal.{Refusal}
+use Rattle.message_answer.specs.Message.{max_response_field, more_sw1}
 use Rattle.message_permission.specs.Permission.{status_permitted}
 use Rattle.chain_parts.specs.Parts.{ceiling}
 use Rattle.chain_parts.proofs.Ceiling.{starts_within, below_ceiling, ends_with_last}
 use Rattle.chain_response.specs.Fragment.{longest_field, asked, announced, fragment_data, fragment_status, next, fragment}
-use Rattle.chain_response.specs.Reassembly.{empty, chain, possible, taken, reassemble_response, reassembly_buffer, get_response}
+use Rattle.chain_response.specs.Reassembly.{ResponseReassembly, empty, chain, possible, taken, reassemble_response, reassembly_buffer, get_response}
 use Rattle.chain_response.specs.Chains.{Reassembled, le_after, requests, answers_to, Reassembles}
 use Rattle.chain_response.specs.declared.ResponseChain.{ResponseChain}
-use Rattle.chain_response.specs.declared.ResponseReassembly.{ResponseReassembly}
-use Rattle.chain_response.specs.declared.ResponseReassemblyAnswer.{ResponseReassemblyAnswer}
-use Rattle.chain_response.specs.declared.ResponseReassemblyAnswer.TheVariants.{More, Whole}
+use Rattle.chain_response.specs.declared.ResponsePart.{ResponsePart}
+use Rattle.chain_response.specs.declared.ResponsePart.TheVariants.{More, Whole}
 use Rattle.chain_response.proofs.WrittenFragment.{taken_answer, taken_data}
 
 -- one request, and the rest
 one_more : (sw : StatusWord) (field : Bytes) (n at le : ℕ) (c : ResponseChain) (held bytes : Bytes) (r : ResponseReassembly) (behind : ℕ) (held' : Bytes) (rest : Reassembled)
     → fragment sw field at le ≡ bytes → next field at le ≡ behind
     → reassemble_response c bytes (length held) ≡ r → reassembly_buffer c bytes held ≡ held'
-    → requests sw field n behind (le_after r.answer) r.chain held' ≡ rest
+    → requests sw field n behind (le_after r.answer) r.next held' ≡ rest
     → requests sw field (suc n) at le c held ≡ record { indices = at ∷ rest.indices; answers = r.answer ∷ rest.answers; chain = rest.chain; held = rest.held }
 unfolding requests
 one_more sw field n at le c held bytes r behind held' rest b e f g h = rw (b, e, f, g, h)
@@ -48,7 +51,7 @@ module _ (sw : StatusWord) (field held : Bytes) (permitted : status_permitted sw
   left m k =
       record {
         indices = tabulate (suc m) (λ i. (k + i) * 256);
-        answers = tabulate m (λ i. More (suc (k + i) * 256) (announced (length field - suc (k + i) * 256))) ++ Whole (length field) sw.sw1 sw.sw2 ∷ [];
+        answers = tabulate m (λ i. Ok (More (suc (k + i) * 256) (announced (length field - suc (k + i) * 256)))) ++ Ok (Whole (length field) sw) ∷ [];
         chain = empty;
         held = over held field;
       }
@@ -94,7 +97,7 @@ module _ (sw : StatusWord) (field held : Bytes) (permitted : status_permitted sw
     -- a fragment with the status word a b, with which n bytes stand there
     taken_then : (m n a b : ℕ) (more : Bool) (rest : Reassembled) → k * 256 + length (part k) ≡ n → n ≤ length field → 1 ≤ length (part k)
         → length (part k) ≤ 256 → fragment_status sw (length field - n) ≡ a ∷ b ∷ [] → eqb a more_sw1 ≡ more
-        → requests sw field m n (le_after (taken (status a b) n more).answer) (taken (status a b) n more).chain (over held (take (k * 256) field ++ part k)) ≡ rest
+        → requests sw field m n (le_after (taken (status a b) n more).answer) (taken (status a b) n more).next (over held (take (k * 256) field ++ part k)) ≡ rest
         → requests sw field (suc m) (k * 256) le (chain (k * 256)) (over held (take (k * 256) field))
         ≡ record { indices = k * 256 ∷ rest.indices; answers = (taken (status a b) n more).answer ∷ rest.answers; chain = rest.chain; held = rest.held }
     taken_then m n a b more rest e inField some small s t g =
@@ -124,7 +127,7 @@ module _ (sw : StatusWord) (field held : Bytes) (permitted : status_permitted sw
         taken_then 0 (length field) sw.sw1 sw.sw2 false (record { indices = []; answers = []; chain = empty; held = over held field }) (omega arith) (omega arith) (omega arith)
         (omega arith) none_left (not-true (eqb sw.sw1 more_sw1) permitted)
         (ap (λ (b : Bytes). record { indices = []; answers = []; chain = empty; held = over held b }) whole)
-        ∙ ap (λ (j : ℕ). record { indices = j * 256 ∷ []; answers = Whole (length field) sw.sw1 sw.sw2 ∷ []; chain = empty; held = over held field }) (sym (add-zero k))
+        ∙ ap (λ (j : ℕ). record { indices = j * 256 ∷ []; answers = Ok (Whole (length field) sw) ∷ []; chain = empty; held = over held field }) (sym (add-zero k))
 
     next_one : (m : ℕ) → suc k < ceiling (length field) 256
         → requests sw field (suc m) (suc k * 256) (announced (length field - suc k * 256)) (chain (suc k * 256)) (over held (take (suc k * 256) field)) ≡ left m (suc k)
@@ -137,11 +140,11 @@ module _ (sw : StatusWord) (field held : Bytes) (permitted : status_permitted sw
         taken_then (suc m) (suc k * 256) more_sw1 (announced (length field - suc k * 256)) true (left m (suc k)) (omega (arith, suc-mul k 256)) (omega arith) (omega arith)
         (omega arith) (some_left (suc k * 256) v) refl
         (ap (λ (b : Bytes). requests sw field (suc m) (suc k * 256) (announced (length field - suc k * 256)) (chain (suc k * 256)) (over held b)) bytes ∙ g)
-        ∙ ap (λ (l : List ℕ). record { indices = k * 256 ∷ l; answers = More (suc k * 256) (announced (length field - suc k * 256)) ∷ (left m (suc k)).answers; chain = empty; held = over held field })
+        ∙ ap (λ (l : List ℕ). record { indices = k * 256 ∷ l; answers = Ok (More (suc k * 256) (announced (length field - suc k * 256))) ∷ (left m (suc k)).answers; chain = empty; held = over held field })
         (tabulate_ext (suc m) (λ i b. ap (λ (j : ℕ). j * 256) (suc-add k i ∙ sym (add-suc k i))))
-        ∙ ap₂ (λ (j : ℕ) (l : List ResponseReassemblyAnswer). record { indices = j * 256 ∷ tabulate (suc m) (λ i. (k + suc i) * 256); answers = More (suc j * 256) (announced (length field - suc j * 256)) ∷ l ++ Whole (length field) sw.sw1 sw.sw2 ∷ []; chain = empty; held = over held field })
+        ∙ ap₂ (λ (j : ℕ) (l : List (Result ResponsePart Refusal)). record { indices = j * 256 ∷ tabulate (suc m) (λ i. (k + suc i) * 256); answers = Ok (More (suc j * 256) (announced (length field - suc j * 256))) ∷ l ++ Ok (Whole (length field) sw) ∷ []; chain = empty; held = over held field })
         (sym (add-zero k))
-        (tabulate_ext m (λ i b. ap (λ (j : ℕ). More (suc j * 256) (announced (length field - suc j * 256))) (suc-add k i ∙ sym (add-suc k i))))
+        (tabulate_ext m (λ i b. ap (λ (j : ℕ). Ok (More (suc j * 256) (announced (length field - suc j * 256)))) (suc-add k i ∙ sym (add-suc k i))))
 
   go : (m k le : ℕ) → k + suc m ≡ ceiling (length field) 256 → fragment_data field (k * 256) le ≡ part k
       → requests sw field (suc m) (k * 256) le (chain (k * 256)) (over held (take (k * 256) field)) ≡ left m k
@@ -166,5 +169,5 @@ reassembles sw field held permitted some short fits =
     ∙ go sw field held permitted short fits (n - 1) 0 0x00 (zero-add (suc (n - 1)) ∙ sym count) (first_asks field)
     ∙ ap (λ (l : List ℕ). record { indices = l; answers = (left sw field held permitted short fits (n - 1) 0).answers; chain = empty; held = over held field })
     (ap (λ (m : ℕ). tabulate m (λ i. (0 + i) * 256)) (sym count) ∙ tabulate_ext n (λ i b. ap (λ (j : ℕ). j * 256) (zero-add i)))
-    ∙ ap (λ (l : List ResponseReassemblyAnswer). record { indices = tabulate n (λ k. k * 256); answers = l ++ Whole (length field) sw.sw1 sw.sw2 ∷ []; chain = empty; held = over held field })
-    (tabulate_ext (n - 1) (λ i b. ap (λ (j : ℕ). More (suc j * 256) (announced (length field - suc j * 256))) (zero-add i)))
+    ∙ ap (λ (l : List (Result ResponsePart Refusal)). record { indices = tabulate n (λ k. k * 256); answers = l ++ Ok (Whole (length field) sw) ∷ []; chain = empty; held = over held field })
+    (tabulate_ext (n - 1) (λ i b. ap (λ (j : ℕ). Ok (More (suc j * 256) (announced (length field - suc j * 256)))) (zero-add i)))

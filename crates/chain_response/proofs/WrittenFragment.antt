@@ -12,7 +12,8 @@ use lib.Seq.{take_at, get_or_at, get_or-append-add}
 use Rattle.octets.specs.Bytes.{Bytes}
 use Rattle.octets.specs.Write.{put}
 use Rattle.octets.proofs.Tests.{and_intro}
-use Rattle.message_answer.specs.Message.{status, max_response_field, more_sw1}
+use Rattle.apdu.specs.Apdu.{status}
+use Rattle.message_answer.specs.Message.{max_response_field, more_sw1}
 use Rattle.message_answer.specs.Answer.{gave, require◌else◌⨾◌}
 use Rattle.chain_response.specs.Reassembly.{data_length, data_of, status_of, is_more, well_formed, possible, total, reassembly_checks, taken, concluded, reassemble_response, written, reassembly_buffer}
 use Rattle.chain_response.specs.declared.ResponseChain.{ResponseChain}

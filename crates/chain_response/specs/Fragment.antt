@@ -1,14 +1,15 @@
 -- Rule 7.6: one fragment of a response field (fragmenting is also called "cutting"): as many bytes as Le asks for at most, and a status word that
 -- announces how many are left.
-use Rattle.std.specs.Prelude.{[], ◌∷◌, ◌++◌, ℕ, ◌+◌, ◌-◌, eqb, leb, ltb, length, take, drop}
+use Rattle.std.specs.Prelude.{Result, Ok, Err, [], ◌∷◌, ◌++◌, ℕ, ◌+◌, ◌-◌, eqb, leb, ltb, length, take, drop}
 use Rattle.octets.specs.Bytes.{Bytes}
 use Rattle.std.specs.Prelude.{if◌then◌else◌}
+use Rattle.apdu.specs.declared.StatusWord.{StatusWord}
+use Rattle.refusal.specs.declared.Refusal.{Refusal}
 use Rattle.refusal.specs.declared.Refusal.TheVariants.{NotPermitted, TooLong, BufferTooSmall, BrokenChain}
-use Rattle.message_answer.specs.Message.{StatusWord, more_sw1}
+use Rattle.message_answer.specs.Message.{more_sw1}
 use Rattle.message_permission.specs.Permission.{status_permitted}
 use Rattle.message_answer.specs.Answer.{Answer, refused, gave, require◌else◌⨾◌}
-use Rattle.chain_response.specs.declared.ResponseFragmentAnswer.{ResponseFragmentAnswer}
-use Rattle.chain_response.specs.declared.ResponseFragmentAnswer.TheVariants.{Fragment, Refused}
+use Rattle.chain_response.specs.declared.ResponseFragment.{ResponseFragment}
 
 -- the longest field that is wrapped; how long a field may be that is read is another limit
 abbrev pub longest_field : ℕ
@@ -46,6 +47,6 @@ fragment_response sw field at le room =
     gave (fragment sw field at le)
 
 -- as the function gives it: the fragment stands in the caller's buffer
-abbrev pub fragment_answer : ℕ → Answer Bytes → ResponseFragmentAnswer
-fragment_answer n (refused r) = Refused r
-fragment_answer n (gave bytes) = Fragment (length bytes) n
+abbrev pub fragment_answer : ℕ → Answer Bytes → Result ResponseFragment Refusal
+fragment_answer n (refused r) = Err r
+fragment_answer n (gave bytes) = Ok (record { len = length bytes; next = n })

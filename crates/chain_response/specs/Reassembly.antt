@@ -1,14 +1,17 @@
 -- Rules 7.7 to 7.9: a response field is put together again from its fragments (also called "joining"), and the GET RESPONSE that asks for the next.
-use Rattle.std.specs.Prelude.{Bool, ◌&&◌, ◌||◌, not, [], ◌∷◌, ℕ, ◌+◌, ◌-◌, eqb, leb, length, get_or, take}
+use Rattle.std.specs.Prelude.{Ok, Err, Bool, ◌&&◌, ◌||◌, not, [], ◌∷◌, ℕ, ◌+◌, ◌-◌, eqb, leb, length, get_or, take}
 use Rattle.octets.specs.Bytes.{Bytes}
 use Rattle.std.specs.Prelude.{if◌then◌else◌}
 use Rattle.octets.specs.Write.{put}
+use Rattle.apdu.specs.declared.StatusWord.{StatusWord}
+use Rattle.apdu.specs.Apdu.{status}
+use Rattle.refusal.specs.declared.Answered.{Answered}
 use Rattle.refusal.specs.declared.Refusal.TheVariants.{TooLong, BufferTooSmall, Malformed, BrokenChain}
-use Rattle.message_answer.specs.Message.{StatusWord, status, max_response_field, more_sw1}
+use Rattle.message_answer.specs.Message.{max_response_field, more_sw1}
 use Rattle.message_answer.specs.Answer.{Answer, refused, gave, require◌else◌⨾◌}
 use Rattle.chain_response.specs.declared.ResponseChain.{ResponseChain}
-use Rattle.chain_response.specs.declared.ResponseReassemblyAnswer.TheVariants.{More, Whole, Refused}
-use Rattle.chain_response.specs.declared.ResponseReassembly.{ResponseReassembly}
+use Rattle.chain_response.specs.declared.ResponsePart.{ResponsePart}
+use Rattle.chain_response.specs.declared.ResponsePart.TheVariants.{More, Whole}
 
 -- ---- a fragment, read: data, and the status word behind it
 
@@ -30,6 +33,10 @@ unfoldable pub well_formed : Bytes → Bool
 well_formed bytes = leb 2 (length bytes) && (not (is_more bytes) || leb 1 (data_length bytes)) && leb (data_length bytes) 256
 
 -- ---- reassembling
+
+-- what reassembling answers, and the chain that it leaves
+abbrev pub ResponseReassembly : Type 0
+ResponseReassembly = Answered ResponsePart ResponseChain
 
 abbrev pub chain : ℕ → ResponseChain
 chain n = record { len = n }
@@ -57,12 +64,12 @@ reassembly_checks c bytes room =
 unfoldable pub taken : StatusWord → ℕ → Bool → ResponseReassembly
 taken sw n more =
     if more
-    then record { answer = More n sw.sw2; chain = chain n }
-    else record { answer = Whole n sw.sw1 sw.sw2; chain = empty }
+    then record { answer = Ok (More n sw.sw2); next = chain n }
+    else record { answer = Ok (Whole n sw); next = empty }
 
 -- "any refusal drops what was joined"
 unfoldable pub concluded : ResponseChain → Bytes → Answer (Unit {0}) → ResponseReassembly
-concluded c bytes (refused r) = record { answer = Refused r; chain = empty }
+concluded c bytes (refused r) = record { answer = Err r; next = empty }
 concluded c bytes (gave passed) = taken (status_of bytes) (total c bytes) (is_more bytes)
 
 unfoldable pub reassemble_response : ResponseChain → Bytes → ℕ → ResponseReassembly

@@ -4,7 +4,8 @@ use Rattle.octets.specs.Bytes.{Bytes, zeros, tabulate}
 use Rattle.std.specs.Prelude.{if◌then◌else◌}
 use Rattle.field_size.specs.Lengths.{ciphertext_length, command_length, response_length}
 use Rattle.field_write.specs.Objects.{encrypted_data}
-use Rattle.chain_command.specs.Apdu.{header, lc}
+use Rattle.apdu.specs.Apdu.{header}
+use Rattle.chain_command.specs.Apdu.{lc}
 use Rattle.chain_command.specs.Fragment.{fragment_count, fragment as commandFragment}
 use Rattle.chain_response.specs.Fragment.{fragment_data, next}
 

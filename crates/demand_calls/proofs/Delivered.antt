@@ -4,19 +4,24 @@ use mathlib.Core.Path.{◌≡◌, sym, ap, ap₂, subst, ◌∙◌}
 use lib.ListN.{length}
 use Rattle.octets.specs.Bytes.{Bytes}
 use Rattle.session_suite.specs.StoredKeys.{key_in}
-use Rattle.session.specs.Opening.{opening}
+use Rattle.session.specs.Opening.{Opened, opening}
 use Rattle.session_suite.specs.declared.Suite.{Suite}
 use Rattle.session.specs.declared.Side.TheVariants.{Host, Card}
 use Rattle.session.specs.declared.Phase.TheVariants.{Ready, Pending}
-use Rattle.session.specs.declared.Opened.{Opened}
 use Rattle.session.specs.declared.Session.{Session}
+use Rattle.message_ciphers.specs.Aes.{aes_ciphers}
 use Rattle.message_ciphers.specs.Ciphers.{IsKey}
+use Rattle.apdu.specs.declared.Header.{Header}
+use Rattle.apdu.specs.declared.StatusWord.{StatusWord}
+use Rattle.apdu.specs.Apdu.{header, status}
 use Rattle.message_answer.specs.Message.{Response, CommandGiven}
 use Rattle.message_answer.specs.Answer.{gave, Out}
+use Rattle.message_protocol.specs.Command.{card_unwraps}
+use Rattle.message_protocol.specs.Response.{host_unwraps}
 use Rattle.message_protocol.specs.Transcript.{does}
 use Rattle.message_protocol.specs.HonestDelivery.{InStep, Keyed}
 use Rattle.message_protocol.proofs.Theorems.{demand2_commands, demand2_responses, demand2_openings}
-use Rattle.demand_calls.specs.Calls.{host_keys, wraps_command, unwraps_command, wraps_response, unwraps_response, session, command, response, buffer_before, next, answer}
+use Rattle.demand_calls.specs.Calls.{host_keys, wraps_command, unwraps_command, wraps_response, unwraps_response, session, command, response, buffer_before, next}
 use Rattle.demand_calls.specs.HonestDelivery.{CommandCarried, DeliversCommands, ResponseCarried, DeliversResponses, OpensInStep}
 use Rattle.demand_calls.proofs.Told.{outcome, told}
 
@@ -28,7 +33,7 @@ delivers_commands w u inStep counted permitted short wrapFits unwrapFits =
     let d = demand2_commands h c (command w) (length (buffer_before (wraps_command Host w))) (length (buffer_before (unwraps_command Card u))) inStep w.met.1.1.1 counted permitted short w.met.1.1.0 wrapFits unwrapFits in
     let wrapped = sym (told (wraps_command Host w)) ∙ d.wraps in
     let unwrapped : CommandCarried w u d.field → outcome (unwraps_command Card u) ≡ record { answer = gave (record { payload = (command w).payload; le = (command w).header.le }); next = d.card } =
-    λ k. sym (told (unwraps_command Card u)) ∙ rw (k.ins, k.p1, k.p2, k.whole) d.unwraps in
+    λ k. sym (told (unwraps_command Card u)) ∙ ap₂ (λ (x : Header) (f : Bytes). card_unwraps aes_ciphers c x f (length (buffer_before (unwraps_command Card u)))) (λ i. header (k.ins i) (k.p1 i) (k.p2 i)) k.whole ∙ d.unwraps in
     record {
       field = d.field;
       wraps = ap (λ (o : Out Bytes). o.answer) wrapped;
@@ -60,7 +65,7 @@ delivers_responses w u inStep permitted short wrapFits unwrapFits =
     let d = demand2_responses h c (response w) (length (buffer_before (wraps_response Card w))) (length (buffer_before (unwraps_response Host u))) inStep (host_keyed h c inStep w.met.1.1.1) permitted short w.met.1.1.0 wrapFits unwrapFits in
     let wrapped = sym (told (wraps_response Card w)) ∙ d.wraps in
     let unwrapped : ResponseCarried w u d.field → outcome (unwraps_response Host u) ≡ record { answer = gave (response w); next = d.host } =
-    λ k. sym (told (unwraps_response Host u)) ∙ rw (k.sw1, k.sw2, k.whole) d.unwraps in
+    λ k. sym (told (unwraps_response Host u)) ∙ ap₂ (λ (x : StatusWord) (f : Bytes). host_unwraps aes_ciphers h x f (length (buffer_before (unwraps_response Host u)))) (λ i. status (k.sw1 i) (k.sw2 i)) k.whole ∙ d.unwraps in
     record {
       field = d.field;
       wraps = ap (λ (o : Out Bytes). o.answer) wrapped;
@@ -78,7 +83,7 @@ opens_in_step h c hostOpened cardOpened same =
     let host : opening Host h.args.0 K ≡ h.result = sym h.met.0 in
     let card : opening Card c.args.0 K ≡ c.result = ap (opening Card c.args.0) (sym same) ∙ sym c.met.0 in
     let d = demand2_openings h.args.0 c.args.0 K h.met.1 (ap (λ (o : Opened). o.answer) host ∙ hostOpened) (ap (λ (o : Opened). o.answer) card ∙ cardOpened) in (
-      subst (λ (o : Opened). InStep Ready o.session c.result.session) host
-          (subst (λ (o : Opened). InStep Ready (opening Host h.args.0 K).session o.session) card d.0),
-      ap (λ (o : Opened). o.session.count) (sym host) ∙ d.1.1,
+      subst (λ (o : Opened). InStep Ready o.next c.result.next) host
+          (subst (λ (o : Opened). InStep Ready (opening Host h.args.0 K).next o.next) card d.0),
+      ap (λ (o : Opened). o.next.count) (sym host) ∙ d.1.1,
     )

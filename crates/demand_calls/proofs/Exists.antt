@@ -26,34 +26,10 @@ use Rattle.demand_calls.specs.Calls.{WrapsCommand, UnwrapsCommand, WrapsResponse
 pub closes_runs : (κs : Lfts 0) (args : Dens κs close-session-kinds.ps) → Closes
 closes_runs κs args = record { κs = κs; args = args; result = closed args.0; exit = (args.0, tt); met = refl }
 
-pub wraps_command_runs : (κs : Lfts 2) (args : Dens κs wrap-command-kinds.ps) → IsBytes args.1.1.1.1.1.0.now → Keyed args.0 → WrapsCommand
+pub wraps_command_runs : (κs : Lfts 2) (args : Dens κs wrap-command-kinds.ps) → IsBytes args.1.1.1.0.now → Keyed args.0 → WrapsCommand
 wraps_command_runs κs args b k =
-    let out = args.1.1.1.1.1.1.0 in
-    let o = wrap_command args.0 args.1.0 args.1.1.0 args.1.1.1.0 args.1.1.1.1.0 args.1.1.1.1.1.0.now (length out.now) in
-    record {
-      κs = κs;
-      args = args;
-      result = wrap_result o;
-      exit = (args.0, (args.1.0, (args.1.1.0, (args.1.1.1.0, (args.1.1.1.1.0, (args.1.1.1.1.1.0, (at_last out (buffer (λ (f : Bytes). f) out.now o.answer), tt)))))));
-      met = (refl, (refl, (b, k)));
-    }
-
-pub unwraps_command_runs : (κs : Lfts 2) (args : Dens κs unwrap-command-kinds.ps) → UnwrapsCommand
-unwraps_command_runs κs args =
-    let out = args.1.1.1.1.1.0 in
-    let o = unwrap_command args.0 args.1.0 args.1.1.0 args.1.1.1.0 args.1.1.1.1.0.now (length out.now) in
-    record {
-      κs = κs;
-      args = args;
-      result = command_result o;
-      exit = (args.0, (args.1.0, (args.1.1.0, (args.1.1.1.0, (args.1.1.1.1.0, (at_last out (buffer (λ (g : CommandGiven). g.payload) out.now o.answer), tt))))));
-      met = (refl, refl);
-    }
-
-pub wraps_response_runs : (κs : Lfts 2) (args : Dens κs wrap-response-kinds.ps) → IsBytes args.1.1.1.0.now → Keyed args.0 → WrapsResponse
-wraps_response_runs κs args b k =
     let out = args.1.1.1.1.0 in
-    let o = wrap_response args.0 args.1.0 args.1.1.0 args.1.1.1.0.now (length out.now) in
+    let o = wrap_command args.0 args.1.0 args.1.1.0 args.1.1.1.0.now (length out.now) in
     record {
       κs = κs;
       args = args;
@@ -62,14 +38,38 @@ wraps_response_runs κs args b k =
       met = (refl, (refl, (b, k)));
     }
 
+pub unwraps_command_runs : (κs : Lfts 2) (args : Dens κs unwrap-command-kinds.ps) → UnwrapsCommand
+unwraps_command_runs κs args =
+    let out = args.1.1.1.0 in
+    let o = unwrap_command args.0 args.1.0 args.1.1.0.now (length out.now) in
+    record {
+      κs = κs;
+      args = args;
+      result = command_result o;
+      exit = (args.0, (args.1.0, (args.1.1.0, (at_last out (buffer (λ (g : CommandGiven). g.payload) out.now o.answer), tt))));
+      met = (refl, refl);
+    }
+
+pub wraps_response_runs : (κs : Lfts 2) (args : Dens κs wrap-response-kinds.ps) → IsBytes args.1.1.0.now → Keyed args.0 → WrapsResponse
+wraps_response_runs κs args b k =
+    let out = args.1.1.1.0 in
+    let o = wrap_response args.0 args.1.0 args.1.1.0.now (length out.now) in
+    record {
+      κs = κs;
+      args = args;
+      result = wrap_result o;
+      exit = (args.0, (args.1.0, (args.1.1.0, (at_last out (buffer (λ (f : Bytes). f) out.now o.answer), tt))));
+      met = (refl, (refl, (b, k)));
+    }
+
 pub unwraps_response_runs : (κs : Lfts 2) (args : Dens κs unwrap-response-kinds.ps) → UnwrapsResponse
 unwraps_response_runs κs args =
-    let out = args.1.1.1.1.0 in
-    let o = unwrap_response args.0 args.1.0 args.1.1.0 args.1.1.1.0.now (length out.now) in
+    let out = args.1.1.1.0 in
+    let o = unwrap_response args.0 args.1.0 args.1.1.0.now (length out.now) in
     record {
       κs = κs;
       args = args;
       result = response_result o;
-      exit = (args.0, (args.1.0, (args.1.1.0, (args.1.1.1.0, (at_last out (buffer (λ (m : Response). m.payload) out.now o.answer), tt)))));
+      exit = (args.0, (args.1.0, (args.1.1.0, (at_last out (buffer (λ (m : Response). m.payload) out.now o.answer), tt))));
       met = (refl, refl);
     }

@@ -6,20 +6,17 @@ use mathlib.Core.List.{[], ◌∷◌, Memᴰ}
 use Prim.Native.Nat.{ℕ}
 use native.Mathlib.Omega.{arith}
 use Rattle.octets.specs.Bytes.{Bytes}
-use Rattle.std.specs.Prelude.{if◌then◌else◌}
+use Rattle.std.specs.Prelude.{if◌then◌else◌, Option, Some, None, Result, Ok, Err}
 use Rattle.refusal.specs.Refusal.{number}
 use Rattle.refusal.specs.declared.Refusal.{Refusal}
 use Rattle.refusal.specs.declared.Refusal.TheVariants.{UnknownSuite, BadKeyLength}
 use Rattle.session_suite.specs.Suites.{key_length, suite_of}
 use Rattle.session.specs.Session.{fresh, no_session}
 use Rattle.session_suite.specs.StoredKeys.{stored, Keys, keys_fit}
-use Rattle.session.specs.Opening.{not_opened, open_suite, opening}
+use Rattle.session.specs.Opening.{Opened, not_opened, open_suite, opening}
 use Rattle.session.specs.declared.Side.{Side}
 use Rattle.session.specs.declared.Side.TheVariants.{Host, Card}
-use Rattle.session_suite.specs.declared.SuiteNumber.{SuiteNumber}
-use Rattle.session_suite.specs.declared.SuiteNumber.TheVariants.{Known, Unknown}
-use Rattle.session.specs.declared.Opening.TheVariants.{Opened as Done, Refused}
-use Rattle.session.specs.declared.Opened.{Opened}
+use Rattle.session_suite.specs.declared.Suite.{Suite}
 use Rattle.session.specs.declared.Session.{Session}
 use Rattle.message_ciphers.specs.Aes.{aes_ciphers}
 use Rattle.message_answer.specs.Answer.{refused, gave, Out, buffer}
@@ -27,12 +24,8 @@ use Rattle.message_protocol.specs.RefusalKeeps.{writes, IsClosed}
 use Rattle.message_protocol.specs.Transcript.{Gives, does}
 use Rattle.message_protocol.proofs.Theorems.{demand1}
 use Rattle.capi_values.specs.Values.{refusal_values, wrap_values, command_values, response_values}
-use Rattle.message_result.specs.declared.WrapAnswer.{WrapAnswer}
-use Rattle.message_result.specs.declared.WrapAnswer.TheVariants.{Wrapped, Refused as NotWrapped}
-use Rattle.message_result.specs.declared.CommandAnswer.{CommandAnswer}
-use Rattle.message_result.specs.declared.CommandAnswer.TheVariants.{Accepted as CommandAccepted, Refused as CommandRefused}
-use Rattle.message_result.specs.declared.ResponseAnswer.{ResponseAnswer}
-use Rattle.message_result.specs.declared.ResponseAnswer.TheVariants.{Accepted as ResponseAccepted, Refused as ResponseRefused}
+use Rattle.message_result.specs.declared.AcceptedCommand.{AcceptedCommand}
+use Rattle.message_result.specs.declared.AcceptedResponse.{AcceptedResponse}
 use Rattle.demand_calls.specs.Calls.{host_keys, card_keys, Event, wraps_command, unwraps_command, wraps_response, unwraps_response, closes, session, buffer_before, call, next, values, wrap_gave, command_gave, response_gave, answer}
 use Rattle.demand_calls.specs.RefusalKeeps.{RefusalKeeps, RestKeeps, HostOpeningRefuses, CardOpeningRefuses}
 use Rattle.demand_calls.proofs.Told.{told, output_told}
@@ -41,17 +34,17 @@ use Rattle.demand_calls.proofs.Told.{told, output_told}
 not_given_lem : {A : Type 0} {a : A} {r : Refusal} {P : Type 0} → gave a ≡ refused r → P
 not_given_lem e = let z : ◌≡◌ {A = ℕ} 0 1 = cc in let o : ⊥ = omega arith in absurd o
 
-wrap_values_lem : (a : WrapAnswer) (out : Bytes) (r : Refusal) → wrap_gave a out ≡ refused r → wrap_values a ≡ refusal_values r
-wrap_values_lem (Wrapped n) out r e = not_given_lem e
-wrap_values_lem (NotWrapped q) out r e = let s : q ≡ r = cc in ap refusal_values s
+wrap_values_lem : (a : Result ℕ Refusal) (out : Bytes) (r : Refusal) → wrap_gave a out ≡ refused r → wrap_values a ≡ refusal_values r
+wrap_values_lem (Ok n) out r e = not_given_lem e
+wrap_values_lem (Err q) out r e = let s : q ≡ r = cc in ap refusal_values s
 
-command_values_lem : (a : CommandAnswer) (out : Bytes) (r : Refusal) → command_gave a out ≡ refused r → command_values a ≡ refusal_values r
-command_values_lem (CommandAccepted n le) out r e = not_given_lem e
-command_values_lem (CommandRefused q) out r e = let s : q ≡ r = cc in ap refusal_values s
+command_values_lem : (a : Result AcceptedCommand Refusal) (out : Bytes) (r : Refusal) → command_gave a out ≡ refused r → command_values a ≡ refusal_values r
+command_values_lem (Ok g) out r e = not_given_lem e
+command_values_lem (Err q) out r e = let s : q ≡ r = cc in ap refusal_values s
 
-response_values_lem : (a : ResponseAnswer) (out : Bytes) (r : Refusal) → response_gave a out ≡ refused r → response_values a ≡ refusal_values r
-response_values_lem (ResponseAccepted n sw1 sw2) out r e = not_given_lem e
-response_values_lem (ResponseRefused q) out r e = let s : q ≡ r = cc in ap refusal_values s
+response_values_lem : (a : Result AcceptedResponse Refusal) (out : Bytes) (r : Refusal) → response_gave a out ≡ refused r → response_values a ≡ refusal_values r
+response_values_lem (Ok g) out r e = not_given_lem e
+response_values_lem (Err q) out r e = let s : q ≡ r = cc in ap refusal_values s
 
 values_told : (e : Event) (r : Refusal) → answer e ≡ refused r → values e ≡ refusal_values r
 values_told (wraps_command side c) r e = wrap_values_lem c.result.answer _ r e
@@ -77,27 +70,27 @@ rest_keeps e = output_told e ∙ ap (λ (o : Out (Gives (call e))). buffer (writ
 
 -- ---- openings
 
-no_refusal : {r : Refusal} {P : Type 0} → Done ≡ Refused r → P
+no_refusal : {r : Refusal} {P : Type 0} → ◌≡◌ {A = Result (Unit {0}) Refusal} (Ok tt) (Err r) → P
 no_refusal e = let z : ◌≡◌ {A = ℕ} 0 1 = cc in let o : ⊥ = omega arith in absurd o
 
-same_refusal : {q r : Refusal} → Refused q ≡ Refused r → q ≡ r
+same_refusal : {q r : Refusal} → ◌≡◌ {A = Result (Unit {0}) Refusal} (Err q) (Err r) → q ≡ r
 same_refusal e = cc
 
 -- the refusals of an opening
 abbrev Refuses : Side → Opened → Type 0
-Refuses side o = (r : Refusal) → o.answer ≡ Refused r → Memᴰ (number r) (11 ∷ 12 ∷ []) × (o.session ≡ no_session side)
+Refuses side o = (r : Refusal) → o.answer ≡ Err r → Memᴰ (number r) (11 ∷ 12 ∷ []) × (o.next ≡ no_session side)
 
 not_opened_lem : (side : Side) (q : Refusal) → Memᴰ (number q) (11 ∷ 12 ∷ []) → Refuses side (not_opened side q)
 not_opened_lem side q m r e = (subst (λ (x : Refusal). Memᴰ (number x) (11 ∷ 12 ∷ [])) (same_refusal e) m, refl)
 
-suite_refuses : (side : Side) (n : SuiteNumber) (k : Keys) → Refuses side (open_suite side n k)
+suite_refuses : (side : Side) (n : Option Suite) (k : Keys) → Refuses side (open_suite side n k)
 unfolding open_suite
-suite_refuses side (Known suite) k = go (keys_fit (key_length suite) k)
+suite_refuses side (Some suite) k = go (keys_fit (key_length suite) k)
   where
-    go : (fit : Bool) → Refuses side (if fit then record { answer = Done; session = fresh side suite (stored k.enc) (stored k.mac) (stored k.rmac) } else not_opened side BadKeyLength)
+    go : (fit : Bool) → Refuses side (if fit then record { answer = Ok tt; next = fresh side suite (stored k.enc) (stored k.mac) (stored k.rmac) } else not_opened side BadKeyLength)
     go true = λ r e. no_refusal e
     go false = not_opened_lem side BadKeyLength (Memᴰ.tail (Memᴰ.head refl))
-suite_refuses side Unknown k = not_opened_lem side UnknownSuite (Memᴰ.head refl)
+suite_refuses side None k = not_opened_lem side UnknownSuite (Memᴰ.head refl)
 
 opening_refuses : (side : Side) (n : ℕ) (k : Keys) → Refuses side (opening side n k)
 unfolding opening

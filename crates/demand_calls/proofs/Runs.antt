@@ -6,10 +6,9 @@ use mathlib.Core.List.{List, [], ◌∷◌, map}
 use Prim.Native.Nat.{ℕ, zero, suc}
 use lib.ListN.{take}
 use Rattle.session_suite.specs.StoredKeys.{Keys}
-use Rattle.session.specs.Opening.{opening}
+use Rattle.session.specs.Opening.{Opened, opening}
 use Rattle.session.specs.declared.Side.{Side}
 use Rattle.session.specs.declared.Side.TheVariants.{Host, Card}
-use Rattle.session.specs.declared.Opened.{Opened}
 use Rattle.session.specs.declared.Session.{Session}
 use Rattle.message_ciphers.specs.Aes.{aes_ciphers}
 use Rattle.message_answer.specs.Answer.{Out}
@@ -94,7 +93,7 @@ module _ (K : Keys) where
 -- the runs of the definitions, from the sessions that were opened
 from_openings : (K : Keys) (x y : Opened) (cs : List Call) → Type 0
 from_openings K x y cs =
-    let st = start x.session y.session in
+    let st = start x.next y.next in
     Agrees aes_ciphers K (run aes_ciphers K st cs).transcript ⊎ ExceptedRun aes_ciphers K st cs
 
 pub agreement : Agreement
@@ -110,5 +109,5 @@ agreement h c hostOpened cardOpened same events t n =
     subst (λ (o : Opened). from_openings K o (opening Card c.args.0 K) (take n (calls events))) host d in
     let d2 : from_openings K h.result c.result (take n (calls events)) =
     subst (λ (o : Opened). from_openings K h.result o (take n (calls events))) card d1 in
-    of_run K (start h.result.session c.result.session) (take n events) (take_trace K n _ events t)
+    of_run K (start h.result.next c.result.next) (take n events) (take_trace K n _ events t)
     (subst (from_openings K h.result c.result) (take_calls n events) d2)

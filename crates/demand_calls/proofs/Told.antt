@@ -1,6 +1,7 @@
 -- What a call that ran gave and left is what the definition says of its arguments.
 -- Assumes nothing.
 use mathlib.Core.Path.{◌≡◌, refl, sym, ap}
+use Prim.Native.Nat.{ℕ}
 use lib.ListN.{length, take, drop}
 use lib.Seq.{take-append_seam}
 use Rattle.octets.specs.Bytes.{Bytes}
@@ -11,9 +12,10 @@ use Rattle.message_answer.specs.Answer.{Answer, refused, gave, Out, buffer}
 use Rattle.message_protocol.specs.Transcript.{Gives, does}
 use Rattle.message_protocol.specs.RefusalKeeps.{writes}
 use Rattle.message_result.specs.Results.{wrap_answer, wrap_result, command_answer, command_result, response_answer, response_result}
-use Rattle.message_result.specs.declared.WrapResult.{WrapResult}
-use Rattle.message_result.specs.declared.CommandResult.{CommandResult}
-use Rattle.message_result.specs.declared.ResponseResult.{ResponseResult}
+use Rattle.message_result.specs.declared.AcceptedCommand.{AcceptedCommand}
+use Rattle.message_result.specs.declared.AcceptedResponse.{AcceptedResponse}
+use Rattle.refusal.specs.declared.Answered.{Answered}
+use Rattle.session.specs.declared.Session.{Session}
 use Rattle.demand_calls.specs.Calls.{Event, wraps_command, unwraps_command, wraps_response, unwraps_response, closes, session, buffer_before, buffer_after, call, next, wrap_gave, command_gave, response_gave, answer}
 
 -- what was written first is at the start
@@ -40,16 +42,16 @@ response_back (gave m) xs = λ i. gave (record { header = m.header; payload = st
 
 -- ---- the call
 
-wrap_told : (o : Out Bytes) (result : WrapResult) (xs out : Bytes) → result ≡ wrap_result o → out ≡ buffer (λ (f : Bytes). f) xs o.answer
-    → o ≡ record { answer = wrap_gave result.answer out; next = result.session }
+wrap_told : (o : Out Bytes) (result : Answered ℕ Session) (xs out : Bytes) → result ≡ wrap_result o → out ≡ buffer (λ (f : Bytes). f) xs o.answer
+    → o ≡ record { answer = wrap_gave result.answer out; next = result.next }
 wrap_told o result xs out e f = rw (e, f) (λ i. record { answer = sym (wrap_back o.answer xs) i; next = o.next })
 
-command_told : (o : Out CommandGiven) (result : CommandResult) (xs out : Bytes) → result ≡ command_result o → out ≡ buffer (λ (g : CommandGiven). g.payload) xs o.answer
-    → o ≡ record { answer = command_gave result.answer out; next = result.session }
+command_told : (o : Out CommandGiven) (result : Answered AcceptedCommand Session) (xs out : Bytes) → result ≡ command_result o → out ≡ buffer (λ (g : CommandGiven). g.payload) xs o.answer
+    → o ≡ record { answer = command_gave result.answer out; next = result.next }
 command_told o result xs out e f = rw (e, f) (λ i. record { answer = sym (command_back o.answer xs) i; next = o.next })
 
-response_told : (o : Out Response) (result : ResponseResult) (xs out : Bytes) → result ≡ response_result o → out ≡ buffer (λ (m : Response). m.payload) xs o.answer
-    → o ≡ record { answer = response_gave result.answer out; next = result.session }
+response_told : (o : Out Response) (result : Answered AcceptedResponse Session) (xs out : Bytes) → result ≡ response_result o → out ≡ buffer (λ (m : Response). m.payload) xs o.answer
+    → o ≡ record { answer = response_gave result.answer out; next = result.next }
 response_told o result xs out e f = rw (e, f) (λ i. record { answer = sym (response_back o.answer xs) i; next = o.next })
 
 abbrev pub outcome : (e : Event) → Out (Gives (call e))

@@ -6,9 +6,8 @@
 -- one was an acceptance whose '8E' holds the first 8 bytes of its MAC input's whole MAC, and either that input is one that the sender had not
 -- yet MACed in that direction, or two of the sender's whole chaining values so far in that direction, the zero start included, are equal."
 -- Assumes nothing.
-use Rattle.std.specs.Prelude.{◌≡◌, ◌⊎◌, List, [], ◌∷◌, map, ℕ, take}
+use Rattle.std.specs.Prelude.{◌≡◌, ◌⊎◌, List, [], ◌∷◌, map, ℕ, take, Ok}
 use Rattle.session_suite.specs.StoredKeys.{Keys}
-use Rattle.session.specs.declared.Opening.TheVariants.{Opened as Done}
 use Rattle.message_ciphers.specs.Aes.{aes_ciphers}
 use Rattle.message_protocol.specs.Transcript.{State, session_at, moved, entered, start}
 use Rattle.message_protocol.specs.Agreement.{Agrees, BreaksIn, Excepted as ExceptedRun}
@@ -40,7 +39,7 @@ ExceptionNoWider =
 
 abbrev pub Agreement : Type 0
 Agreement =
-    (h : OpensHost) (c : OpensCard) → h.result.answer ≡ Done → c.result.answer ≡ Done → card_keys c ≡ host_keys h
-    → let K = host_keys h in let st = start h.result.session c.result.session in
+    (h : OpensHost) (c : OpensCard) → h.result.answer ≡ Ok tt → c.result.answer ≡ Ok tt → card_keys c ≡ host_keys h
+    → let K = host_keys h in let st = start h.result.next c.result.next in
     (calls : List Event) → Trace K st calls → (n : ℕ)
     → Agrees aes_ciphers K (ran K st (take n calls)).transcript ⊎ Excepted K st (take n calls)

@@ -1,5 +1,5 @@
 -- The calls that ran, of the functions that open, wrap, unwrap and close.
-use Rattle.std.specs.Prelude.{[], length, take}
+use Rattle.std.specs.Prelude.{[], ℕ, length, take, Result, Ok, Err}
 use Rattle.session.proofs.Session.open_host.Reads as open-host
 use Rattle.session.proofs.Session.open_host.Kinds as open-host-kinds
 use Rattle.session.proofs.Session.open_card.Reads as open-card
@@ -19,21 +19,16 @@ use Rattle.octets.specs.Bytes.{Bytes}
 use Rattle.session_suite.specs.StoredKeys.{Keys, keys}
 use Rattle.session.specs.declared.Side.{Side}
 use Rattle.session.specs.declared.Session.{Session}
-use Rattle.session.specs.declared.Opened.{Opened}
-use Rattle.message_answer.specs.Message.{Command, Response, CommandGiven}
+use Rattle.session.specs.Opening.{Opened}
+use Rattle.refusal.specs.declared.Refusal.{Refusal}
+use Rattle.refusal.specs.declared.Answered.{Answered}
+use Rattle.message_answer.specs.Message.{Command, Response, command_header, CommandGiven}
 use Rattle.message_answer.specs.Answer.{Answer, refused, gave}
 use Rattle.message_protocol.specs.Transcript.{Call, wrap_command, unwrap_command, wrap_response, unwrap_response, close, Gives}
 use Rattle.capi_values.specs.Values.{given, wrap_values, command_values, response_values}
 use Rattle.capi_values.specs.declared.Values.{Values}
-use Rattle.message_result.specs.declared.WrapAnswer.{WrapAnswer}
-use Rattle.message_result.specs.declared.WrapAnswer.TheVariants.{Wrapped, Refused as NotWrapped}
-use Rattle.message_result.specs.declared.WrapResult.{WrapResult}
-use Rattle.message_result.specs.declared.CommandAnswer.{CommandAnswer}
-use Rattle.message_result.specs.declared.CommandAnswer.TheVariants.{Accepted as CommandAccepted, Refused as CommandRefused}
-use Rattle.message_result.specs.declared.CommandResult.{CommandResult}
-use Rattle.message_result.specs.declared.ResponseAnswer.{ResponseAnswer}
-use Rattle.message_result.specs.declared.ResponseAnswer.TheVariants.{Accepted as ResponseAccepted, Refused as ResponseRefused}
-use Rattle.message_result.specs.declared.ResponseResult.{ResponseResult}
+use Rattle.message_result.specs.declared.AcceptedCommand.{AcceptedCommand}
+use Rattle.message_result.specs.declared.AcceptedResponse.{AcceptedResponse}
 
 -- ---- openings
 
@@ -53,21 +48,21 @@ card_keys o = keys o.args.1.0.now o.args.1.1.0.now o.args.1.1.1.0.now
 
 -- ---- the five calls
 
--- wrap_command(session, ins, p1, p2, le, data, out)
+-- wrap_command(session, header, le, data, out)
 abbrev pub WrapsCommand : Type 0
-WrapsCommand = Ran 2 wrap-command-kinds.ps wrap-command-kinds.r WrapResult wrap-command.Learnt
+WrapsCommand = Ran 2 wrap-command-kinds.ps wrap-command-kinds.r (Answered ℕ Session) wrap-command.Learnt
 
--- unwrap_command(session, ins, p1, p2, field, out)
+-- unwrap_command(session, header, field, out)
 abbrev pub UnwrapsCommand : Type 0
-UnwrapsCommand = Ran 2 unwrap-command-kinds.ps unwrap-command-kinds.r CommandResult unwrap-command.Learnt
+UnwrapsCommand = Ran 2 unwrap-command-kinds.ps unwrap-command-kinds.r (Answered AcceptedCommand Session) unwrap-command.Learnt
 
--- wrap_response(session, sw1, sw2, data, out)
+-- wrap_response(session, status, data, out)
 abbrev pub WrapsResponse : Type 0
-WrapsResponse = Ran 2 wrap-response-kinds.ps wrap-response-kinds.r WrapResult wrap-response.Learnt
+WrapsResponse = Ran 2 wrap-response-kinds.ps wrap-response-kinds.r (Answered ℕ Session) wrap-response.Learnt
 
--- unwrap_response(session, sw1, sw2, field, out)
+-- unwrap_response(session, status, field, out)
 abbrev pub UnwrapsResponse : Type 0
-UnwrapsResponse = Ran 2 unwrap-response-kinds.ps unwrap-response-kinds.r ResponseResult unwrap-response.Learnt
+UnwrapsResponse = Ran 2 unwrap-response-kinds.ps unwrap-response-kinds.r (Answered AcceptedResponse Session) unwrap-response.Learnt
 
 -- session.close()
 abbrev pub Closes : Type 0
@@ -99,63 +94,58 @@ session (closes side c) = c.args.0
 
 -- the message handed to a wrap
 abbrev pub command : WrapsCommand → Command
-command c =
-    record {
-      header = record { ins = c.args.1.0; p1 = c.args.1.1.0; p2 = c.args.1.1.1.0; le = c.args.1.1.1.1.0 };
-      payload = c.args.1.1.1.1.1.0.now;
-    }
+command c = record { header = command_header c.args.1.0 c.args.1.1.0; payload = c.args.1.1.1.0.now }
 
 abbrev pub response : WrapsResponse → Response
-response c =
-    record { header = record { sw1 = c.args.1.0; sw2 = c.args.1.1.0 }; payload = c.args.1.1.1.0.now }
+response c = record { header = c.args.1.0; payload = c.args.1.1.0.now }
 
 -- the caller's buffer, before and after
 abbrev pub buffer_before : Event → Bytes
-buffer_before (wraps_command side c) = c.args.1.1.1.1.1.1.0.now
-buffer_before (unwraps_command side c) = c.args.1.1.1.1.1.0.now
-buffer_before (wraps_response side c) = c.args.1.1.1.1.0.now
-buffer_before (unwraps_response side c) = c.args.1.1.1.1.0.now
+buffer_before (wraps_command side c) = c.args.1.1.1.1.0.now
+buffer_before (unwraps_command side c) = c.args.1.1.1.0.now
+buffer_before (wraps_response side c) = c.args.1.1.1.0.now
+buffer_before (unwraps_response side c) = c.args.1.1.1.0.now
 buffer_before (closes side c) = []
 
 abbrev pub buffer_after : Event → Bytes
-buffer_after (wraps_command side c) = c.exit.1.1.1.1.1.1.0.now
-buffer_after (unwraps_command side c) = c.exit.1.1.1.1.1.0.now
-buffer_after (wraps_response side c) = c.exit.1.1.1.1.0.now
-buffer_after (unwraps_response side c) = c.exit.1.1.1.1.0.now
+buffer_after (wraps_command side c) = c.exit.1.1.1.1.0.now
+buffer_after (unwraps_command side c) = c.exit.1.1.1.0.now
+buffer_after (wraps_response side c) = c.exit.1.1.1.0.now
+buffer_after (unwraps_response side c) = c.exit.1.1.1.0.now
 buffer_after (closes side c) = []
 
 -- the call as the transcript has it: every argument but the session
 abbrev pub call : Event → Call
 call (wraps_command side c) = wrap_command side (command c) (length (buffer_before (wraps_command side c)))
 call (unwraps_command side c) =
-    unwrap_command side c.args.1.0 c.args.1.1.0 c.args.1.1.1.0 c.args.1.1.1.1.0.now (length (buffer_before (unwraps_command side c)))
+    unwrap_command side c.args.1.0 c.args.1.1.0.now (length (buffer_before (unwraps_command side c)))
 call (wraps_response side c) = wrap_response side (response c) (length (buffer_before (wraps_response side c)))
 call (unwraps_response side c) =
-    unwrap_response side (record { sw1 = c.args.1.0; sw2 = c.args.1.1.0 }) c.args.1.1.1.0.now (length (buffer_before (unwraps_response side c)))
+    unwrap_response side c.args.1.0 c.args.1.1.0.now (length (buffer_before (unwraps_response side c)))
 call (closes side c) = close side
 
 -- ---- its result
 
 -- the session that it left
 abbrev pub next : Event → Session
-next (wraps_command side c) = c.result.session
-next (unwraps_command side c) = c.result.session
-next (wraps_response side c) = c.result.session
-next (unwraps_response side c) = c.result.session
+next (wraps_command side c) = c.result.next
+next (unwraps_command side c) = c.result.next
+next (wraps_response side c) = c.result.next
+next (unwraps_response side c) = c.result.next
 next (closes side c) = c.result
 
 -- what it gave: the number of bytes that it names, from the start of the buffer
-abbrev pub wrap_gave : WrapAnswer → Bytes → Answer Bytes
-wrap_gave (Wrapped n) out = gave (take n out)
-wrap_gave (NotWrapped r) out = refused r
+abbrev pub wrap_gave : Result ℕ Refusal → Bytes → Answer Bytes
+wrap_gave (Ok n) out = gave (take n out)
+wrap_gave (Err r) out = refused r
 
-abbrev pub command_gave : CommandAnswer → Bytes → Answer CommandGiven
-command_gave (CommandAccepted n le) out = gave (record { payload = take n out; le = le })
-command_gave (CommandRefused r) out = refused r
+abbrev pub command_gave : Result AcceptedCommand Refusal → Bytes → Answer CommandGiven
+command_gave (Ok a) out = gave (record { payload = take a.len out; le = a.le })
+command_gave (Err r) out = refused r
 
-abbrev pub response_gave : ResponseAnswer → Bytes → Answer Response
-response_gave (ResponseAccepted n sw1 sw2) out = gave (record { header = record { sw1 = sw1; sw2 = sw2 }; payload = take n out })
-response_gave (ResponseRefused r) out = refused r
+abbrev pub response_gave : Result AcceptedResponse Refusal → Bytes → Answer Response
+response_gave (Ok a) out = gave (record { header = a.status; payload = take a.len out })
+response_gave (Err r) out = refused r
 
 -- its number and values, as rules 2.1 and 2.2 have them; a closing always succeeds
 abbrev pub values : Event → Values

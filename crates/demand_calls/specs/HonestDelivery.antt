@@ -1,9 +1,8 @@
 -- Demand 2, of the functions: "A message honestly wrapped and carried whole to the other end, in step and with room, unwraps to the same data,
 -- header, Le (or its absence) and status." That the functions are what the standards define is said by their contracts. Assumes nothing.
-use Rattle.std.specs.Prelude.{◌≡◌, true, ◌+◌, ◌≤◌, ◌<◌, length}
+use Rattle.std.specs.Prelude.{◌≡◌, true, ◌+◌, ◌≤◌, ◌<◌, length, Ok}
 use Rattle.octets.specs.Bytes.{Bytes}
 use Rattle.field_size.specs.Lengths.{ciphertext_length, command_length, response_length}
-use Rattle.session.specs.declared.Opening.TheVariants.{Opened as Done}
 use Rattle.session.specs.declared.Side.TheVariants.{Host, Card}
 use Rattle.session.specs.declared.Phase.TheVariants.{Ready, Pending}
 use Rattle.message_answer.specs.Message.{max_command_data, max_response_data, command_limit}
@@ -16,10 +15,10 @@ use Rattle.demand_calls.specs.Calls.{OpensHost, OpensCard, host_keys, card_keys,
 
 -- the field that the card is handed, and the header beside it, are the wrapped ones
 pub record CommandCarried (w : WrapsCommand) (u : UnwrapsCommand) (field : Bytes) : Type 0 where
-  pub ins : u.args.1.0 ≡ (command w).header.ins
-  pub p1 : u.args.1.1.0 ≡ (command w).header.p1
-  pub p2 : u.args.1.1.1.0 ≡ (command w).header.p2
-  pub whole : u.args.1.1.1.1.0.now ≡ field
+  pub ins : u.args.1.0.ins ≡ (command w).header.ins
+  pub p1 : u.args.1.0.p1 ≡ (command w).header.p1
+  pub p2 : u.args.1.0.p2 ≡ (command w).header.p2
+  pub whole : u.args.1.1.0.now ≡ field
 
 pub record CommandDelivered (w : WrapsCommand) (u : UnwrapsCommand) : Type 0 where
   pub field : Bytes
@@ -42,9 +41,9 @@ DeliversCommands =
 -- ---- a response, from the card to the host
 
 pub record ResponseCarried (w : WrapsResponse) (u : UnwrapsResponse) (field : Bytes) : Type 0 where
-  pub sw1 : u.args.1.0 ≡ (response w).header.sw1
-  pub sw2 : u.args.1.1.0 ≡ (response w).header.sw2
-  pub whole : u.args.1.1.1.0.now ≡ field
+  pub sw1 : u.args.1.0.sw1 ≡ (response w).header.sw1
+  pub sw2 : u.args.1.0.sw2 ≡ (response w).header.sw2
+  pub whole : u.args.1.1.0.now ≡ field
 
 pub record ResponseDelivered (w : WrapsResponse) (u : UnwrapsResponse) : Type 0 where
   pub field : Bytes
@@ -67,5 +66,5 @@ DeliversResponses =
 
 abbrev pub OpensInStep : Type 0
 OpensInStep =
-    (h : OpensHost) (c : OpensCard) → h.result.answer ≡ Done → c.result.answer ≡ Done
-    → card_keys c ≡ host_keys h → InStep Ready h.result.session c.result.session × (h.result.session.count ≡ 0)
+    (h : OpensHost) (c : OpensCard) → h.result.answer ≡ Ok tt → c.result.answer ≡ Ok tt
+    → card_keys c ≡ host_keys h → InStep Ready h.result.next c.result.next × (h.result.next.count ≡ 0)

@@ -1,12 +1,11 @@
 -- Demand 1 (rule 10.1), of the functions: every refusal has a number of its call's order, no byte of the caller's buffer changes, and the session stays,
 -- but is closed, field by field, at 9 and 10.
-use Rattle.std.specs.Prelude.{◌≡◌, ◌⊎◌}
+use Rattle.std.specs.Prelude.{◌≡◌, ◌⊎◌, Err}
 use mathlib.Core.List.{[], ◌∷◌, Memᴰ}
 use Rattle.refusal.specs.Refusal.{number}
 use Rattle.refusal.specs.declared.Refusal.{Refusal}
 use Rattle.session.specs.Session.{no_session}
 use Rattle.session.specs.declared.Side.TheVariants.{Host, Card}
-use Rattle.session.specs.declared.Opening.TheVariants.{Refused}
 use Rattle.message_answer.specs.Answer.{refused, buffer}
 use Rattle.message_protocol.specs.RefusalKeeps.{order, writes, IsClosed}
 use Rattle.capi_values.specs.Values.{refusal_values}
@@ -30,8 +29,8 @@ RestKeeps = (e : Event) → buffer_after e ≡ buffer (writes (call e)) (buffer_
 -- openings lend no output; a refused one gives no session
 abbrev pub HostOpeningRefuses : Type 0
 HostOpeningRefuses =
-    (o : OpensHost) (r : Refusal) → o.result.answer ≡ Refused r → Memᴰ (number r) (11 ∷ 12 ∷ []) × (o.result.session ≡ no_session Host)
+    (o : OpensHost) (r : Refusal) → o.result.answer ≡ Err r → Memᴰ (number r) (11 ∷ 12 ∷ []) × (o.result.next ≡ no_session Host)
 
 abbrev pub CardOpeningRefuses : Type 0
 CardOpeningRefuses =
-    (o : OpensCard) (r : Refusal) → o.result.answer ≡ Refused r → Memᴰ (number r) (11 ∷ 12 ∷ []) × (o.result.session ≡ no_session Card)
+    (o : OpensCard) (r : Refusal) → o.result.answer ≡ Err r → Memᴰ (number r) (11 ∷ 12 ∷ []) × (o.result.next ≡ no_session Card)

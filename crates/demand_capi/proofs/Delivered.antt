@@ -19,9 +19,13 @@ use Rattle.session_bytes.specs.Lengths.{Lengths}
 use Rattle.session_bytes.proofs.SessionLengths.{opening_lengths}
 use Rattle.message_ciphers.specs.Aes.{aes_ciphers}
 use Rattle.message_ciphers.proofs.AesLaws.{aes_mac_length}
-use Rattle.message_answer.specs.Message.{StatusWord, Response, CommandGiven}
+use Rattle.apdu.specs.declared.Header.{Header}
+use Rattle.apdu.specs.declared.StatusWord.{StatusWord}
+use Rattle.apdu.specs.Apdu.{header}
+use Rattle.message_answer.specs.Message.{Response, CommandGiven}
 use Rattle.message_answer.specs.Answer.{refused, gave, Out}
 use Rattle.message_protocol.specs.HonestDelivery.{Keyed}
+use Rattle.message_protocol.specs.Command.{card_unwraps}
 use Rattle.message_protocol.specs.Response.{host_unwraps}
 use Rattle.message_protocol.specs.Transcript.{Call, wrap_command, unwrap_command, wrap_response, unwrap_response, Gives, does}
 use Rattle.message_protocol.proofs.KeysTyped.{keys_typed}
@@ -77,7 +81,7 @@ delivers_commands w u h c t getsHost getsCard counted permitted short wrapFits u
     (keyed host h t.host_lengths getsHost) counted permitted short w.met.1.1 wrapFits unwrapFits in
     let unwrapped : CommandCarried w u d.field → does aes_ciphers c (call card)
     ≡ record { answer = gave (record { payload = (command w).payload; le = (command w).header.le }); next = d.card } =
-    λ k. rw (k.ins, k.p1, k.p2, k.whole) d.unwraps in
+    λ k. ap₂ (λ (x : Header) (f : Bytes). card_unwraps aes_ciphers c x f (length (unwrap_command_given u).payload)) (λ i. header (k.ins i) (k.p1 i) (k.p2 i)) k.whole ∙ d.unwraps in
     let m = (command w).header in
     record {
       field = d.field;
@@ -94,7 +98,7 @@ delivers_commands w u h c t getsHost getsCard counted permitted short wrapFits u
             (next_lengths h t.host_lengths (wrap_command Host (command w) (length (wrap_command_given w).field)));
         card_lengths =
             subst Lengths (ap (λ (o : Out CommandGiven). o.next) d.unwraps)
-            (next_lengths c t.card_lengths (unwrap_command Card m.ins m.p1 m.p2 d.field (length (unwrap_command_given u).payload)));
+            (next_lengths c t.card_lengths (unwrap_command Card (header m.ins m.p1 m.p2) d.field (length (unwrap_command_given u).payload)));
       };
       counted = d.counted;
     }
@@ -136,8 +140,8 @@ opens_in_step h c alike =
     let K = (open_host_given h).keys in
     let d = demand2_openings (open_host_given h).suite (open_card_given c).suite K h.met.1 (host_done h c alike) (card_done h c alike) in
     record {
-      host = (opening Host (open_host_given h).suite K).session;
-      card = (opening Card (open_card_given c).suite K).session;
+      host = (opening Host (open_host_given h).suite K).next;
+      card = (opening Card (open_card_given c).suite K).next;
       host_left = host_left h c alike;
       card_left = card_left h c alike;
       together = record {

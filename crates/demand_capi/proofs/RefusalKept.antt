@@ -1,7 +1,6 @@
 -- Demand 1 of the calls from C, from demand 1 of the definitions.
 use mathlib.Core.Path.{◌≡◌, refl, sym, ap, subst, ◌∙◌}
 use mathlib.Core.Bool.{Bool, true, false}
-use mathlib.Core.Logic.{◌⊎◌}
 use mathlib.Core.List.{List, [], ◌∷◌, Memᴰ}
 use Prim.Native.Nat.{ℕ}
 use native.Mathlib.Omega.{arith}
@@ -9,25 +8,20 @@ use lib.Dec.{leb}
 use lib.ListN.{length, drop}
 use lib.Seq.{drop_at}
 use Rattle.octets.specs.Bytes.{Bytes}
-use Rattle.std.specs.Prelude.{if◌then◌else◌}
+use Rattle.std.specs.Prelude.{if◌then◌else◌, Option, Some, None, Result, Ok, Err}
 use Rattle.octets.specs.Write.{over}
 use Rattle.refusal.specs.Refusal.{number, size, status}
 use Rattle.refusal.specs.declared.Refusal.{Refusal}
 use Rattle.refusal.specs.declared.Refusal.TheVariants.{BufferTooSmall, UnknownSuite, BadKeyLength, BadSession}
 use Rattle.session_suite.specs.Suites.{key_length, suite_of}
-use Rattle.session_suite.specs.declared.SuiteNumber.{SuiteNumber}
-use Rattle.session_suite.specs.declared.SuiteNumber.TheVariants.{Known, Unknown}
+use Rattle.session_suite.specs.declared.Suite.{Suite}
 use Rattle.session_suite.specs.StoredKeys.{stored, Keys, keys_fit}
 use Rattle.session.specs.Session.{fresh}
 use Rattle.session.specs.Opening.{not_opened, open_suite, opening}
 use Rattle.session.specs.declared.Side.{Side}
 use Rattle.session.specs.declared.Side.TheVariants.{Host, Card}
 use Rattle.session.specs.declared.Session.{Session}
-use Rattle.session.specs.declared.Opening.TheVariants.{Opened as IsOpen}
 use Rattle.session_bytes.specs.Saved.{session_size, encode}
-use Rattle.session_bytes.specs.declared.Decoded.{Decoded}
-use Rattle.session_bytes.specs.declared.Decoding.{Decoding}
-use Rattle.session_bytes.specs.declared.Decoding.TheVariants.{Decoded as Done, Refused as Unread}
 use Rattle.message_ciphers.specs.Aes.{aes_ciphers}
 use Rattle.message_answer.specs.Answer.{Answer, refused, gave, require◌else◌⨾◌, buffer}
 use Rattle.message_answer.specs.Message.{CommandGiven, Response}
@@ -116,7 +110,9 @@ refusal_keeps e nonzero =
       status_is = status_told_lem e x.0 x.1 k.in_order;
       no_le = le_none e x.0 x.1;
       buffer_stays = output_told e ∙ k.output;
-      closed = λ h. let t = k.closes (subst Closing n h) in record { session = t.0; is_closed = t.1; held = held_told e ∙ t.2 };
+      closed = λ h.
+          let t = k.closes (subst Closing n h) in
+          record { read = t.read; session = t.session; was_read = t.was_read; is_closed = t.is_closed; held = held_told e ∙ t.put_back };
       stays = λ h. held_told e ∙ k.stays (λ z. h (subst Closing (sym n) z));
     }
 
@@ -124,23 +120,20 @@ refusal_keeps e nonzero =
 
 pub sixteen_exactly : SixteenExactly
 unfolding served_by
-sixteen_exactly e = (λ n. go d.answer refl n, λ u. number_told_lem e ∙ ap (λ a. number_of (at_reading a).answer) u)
+sixteen_exactly e = (λ n. go (session_in (seen e).held) refl n, λ u. number_told_lem e ∙ ap (λ a. number_of (at_reading a).answer) u)
   where
-    d : Decoded
-    d = session_in (seen e).held
-
-    at_reading : Decoding → Served Held (Gives (call e))
-    at_reading a = served_by a (put_in (seen e).held) (seen e).held (does aes_ciphers d.session (call e))
+    at_reading : Result Session Refusal → Served Held (Gives (call e))
+    at_reading a = served_by a (put_in (seen e).held) (seen e).held (λ s. does aes_ciphers s (call e))
 
     zero_is_not_16 : ◌≡◌ {A = ℕ} 0 16 → ⊥
     zero_is_not_16 z = omega (arith, z)
 
-    go : (a : Decoding) → d.answer ≡ a → (seen e).number ≡ number BadSession → d.answer ≡ Unread BadSession
-    go (Unread q) told n = told ∙ ap Unread (read_16 (seen e).held q told)
-    go Done told n =
+    go : (a : Result Session Refusal) → session_in (seen e).held ≡ a → (seen e).number ≡ number BadSession → session_in (seen e).held ≡ Err BadSession
+    go (Err q) read n = read ∙ ap (λ (r : Refusal). Err r) (read_16 (seen e).held q read)
+    go (Ok s) read n =
         let x = refused_is (served e).answer (λ z. zero_is_not_16 (sym (number_told_lem e ∙ z) ∙ n)) in
         let m : number x.0 ≡ 16 = sym (ap number_of x.1) ∙ sym (number_told_lem e) ∙ n in
-        let f = (demand1 d.session (call e) x.0 [] (sym (ap (λ a. (at_reading a).answer) told) ∙ x.1)).in_order in
+        let f = (demand1 s (call e) x.0 [] (sym (ap (λ a. (at_reading a).answer) read) ∙ x.1)).in_order in
         absurd (lacks_16 (call e) (subst (λ (i : ℕ). Memᴰ i (order (call e))) m f))
 
 -- ---- what is not written stays
@@ -197,20 +190,20 @@ saved_among s room = go (leb session_size room)
     go true = λ r e. let z : ◌≡◌ {A = ℕ} 0 1 = cc in let o : ⊥ = omega arith in absurd o
     go false = among (BufferTooSmall session_size) (Memᴰ.tail (Memᴰ.tail (Memᴰ.head refl))) (λ e. refl)
 
-suite_among : (side : Side) (n : SuiteNumber) (k : Keys) (room : ℕ) → let o = open_suite side n k in Among (opened_as o.answer o.session room)
+suite_among : (side : Side) (n : Option Suite) (k : Keys) (room : ℕ) → let o = open_suite side n k in Among (opened_as o.answer o.next room)
 unfolding open_suite opened_as
-suite_among side (Known suite) k room = go (keys_fit (key_length suite) k)
+suite_among side (Some suite) k room = go (keys_fit (key_length suite) k)
   where
     s : Session
     s = fresh side suite (stored k.enc) (stored k.mac) (stored k.rmac)
 
-    go : (fit : Bool) → let o = (if fit then record { answer = IsOpen; session = s } else not_opened side BadKeyLength) in
-        Among (opened_as o.answer o.session room)
+    go : (fit : Bool) → let o = (if fit then record { answer = Ok tt; next = s } else not_opened side BadKeyLength) in
+        Among (opened_as o.answer o.next room)
     go true = saved_among s room
     go false = among BadKeyLength (Memᴰ.tail (Memᴰ.head refl)) (λ e. let o : ⊥ = omega (arith, e) in absurd o)
-suite_among side Unknown k room = among UnknownSuite (Memᴰ.head refl) (λ e. let o : ⊥ = omega (arith, e) in absurd o)
+suite_among side None k room = among UnknownSuite (Memᴰ.head refl) (λ e. let o : ⊥ = omega (arith, e) in absurd o)
 
-open_among : (side : Side) (n : ℕ) (k : Keys) (room : ℕ) → let o = opening side n k in Among (opened_as o.answer o.session room)
+open_among : (side : Side) (n : ℕ) (k : Keys) (room : ℕ) → let o = opening side n k in Among (opened_as o.answer o.next room)
 unfolding opening
 open_among side n k room = suite_among side (suite_of n) k room
 
@@ -225,7 +218,7 @@ opening_refuses : (side : Side) (g : Given) (l : Left) → l ≡ pivsm_open side
 opening_refuses side g l e h =
     let o = opening side g.suite g.keys in
     subst (Refuses g.session) (sym e)
-    (refuses g.session (opened_as o.answer o.session (length g.session)) (open_among side g.suite g.keys (length g.session))
+    (refuses g.session (opened_as o.answer o.next (length g.session)) (open_among side g.suite g.keys (length g.session))
     (λ z. h (ap (λ (x : Left). x.number) e ∙ z)))
 
 pub host_opening_refuses : HostOpeningRefuses

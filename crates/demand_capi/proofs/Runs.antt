@@ -10,12 +10,11 @@ use Rattle.octets.specs.Bytes.{Bytes}
 use Rattle.refusal.specs.declared.Refusal.{Refusal}
 use Rattle.refusal.specs.declared.Refusal.TheVariants.{BadSession}
 use Rattle.session_suite.specs.StoredKeys.{Keys}
-use Rattle.session.specs.Opening.{opening}
+use Rattle.std.specs.Prelude.{Ok}
+use Rattle.session.specs.Opening.{Opened, opening}
 use Rattle.session.specs.declared.Side.{Side}
 use Rattle.session.specs.declared.Side.TheVariants.{Host, Card}
 use Rattle.session.specs.declared.Session.{Session}
-use Rattle.session.specs.declared.Opened.{Opened}
-use Rattle.session.specs.declared.Opening.TheVariants.{Opened as Done}
 use Rattle.session_rules.specs.Valid.{valid, is_open, counts_as_open}
 use Rattle.session_rules.proofs.KeepsTheRules.{opening_served}
 use Rattle.session_bytes.specs.Saved.{encode}
@@ -170,11 +169,11 @@ module _ (K : Keys) where
 
 -- ---- how it begins
 
-opened_good : (side : Side) (suite : ℕ) (K : Keys) (b : Bytes) → (opening side suite K).answer ≡ Done → b ≡ encode (opening side suite K).session
-    → Good (record { bytes = b; closed = false }) (opening side suite K).session
+opened_good : (side : Side) (suite : ℕ) (K : Keys) (b : Bytes) → (opening side suite K).answer ≡ Ok tt → b ≡ encode (opening side suite K).next
+    → Good (record { bytes = b; closed = false }) (opening side suite K).next
 unfolding counts_as_open
 opened_good side suite K b done e =
-    let s = (opening side suite K).session in
+    let s = (opening side suite K).next in
     let o = opening_served side suite K done in
     record { bytes = e; rules = (both (is_open s.phase) (valid s) o).1; lengths = opening_lengths side suite K done; open_is = λ f. o }
 
@@ -194,25 +193,25 @@ module _ (h : OpensHost) (c : OpensCard) (alike : OpenedAlike h c) where
   abbrev card : Opened
   card = opening Card card_suite K
 
-  pub host_done : host.answer ≡ Done
+  pub host_done : host.answer ≡ Ok tt
   host_done = was_opened host (open_host_given h).session (open_host_left h) (open_host_told h) alike.host
 
   card_told : open_card_left c ≡ leaves_opened (open_card_given c).session card
   card_told = open_card_told c ∙ ap (λ (k : Keys). leaves_opened (open_card_given c).session (opening Card card_suite k)) alike.keys
 
-  pub card_done : card.answer ≡ Done
+  pub card_done : card.answer ≡ Ok tt
   card_done = was_opened card (open_card_given c).session (open_card_left c) card_told alike.card
 
-  pub host_left : opened (open_host_left h) ≡ encode host.session
+  pub host_left : opened (open_host_left h) ≡ encode host.next
   host_left =
       left_by_opening host (open_host_given h).session (open_host_left h) (open_host_told h) alike.host (opening_lengths Host host_suite K host_done)
 
-  pub card_left : opened (open_card_left c) ≡ encode card.session
+  pub card_left : opened (open_card_left c) ≡ encode card.next
   card_left =
       left_by_opening card (open_card_given c).session (open_card_left c) card_told alike.card (opening_lengths Card card_suite K card_done)
 
   abbrev starts : State
-  starts = start host.session card.session
+  starts = start host.next card.next
 
   match_start : Match (begins h c) starts
   match_start =

@@ -8,19 +8,15 @@ use native.Mathlib.Omega.{arith}
 use lib.Dec.{leb}
 use lib.ListN.{length, get_or, take}
 use Rattle.octets.specs.Bytes.{Bytes, IsBytes}
-use Rattle.std.specs.Prelude.{if◌then◌else◌}
+use Rattle.std.specs.Prelude.{if◌then◌else◌, Option, Some, None, Result, Ok, Err}
 use Rattle.refusal.specs.Refusal.{number}
 use Rattle.refusal.specs.declared.Refusal.{Refusal}
 use Rattle.refusal.specs.declared.Refusal.TheVariants.{BadMac, BadPadding, BadSession}
 use Rattle.session_suite.specs.Suites.{suite_of}
-use Rattle.session_suite.specs.declared.SuiteNumber.{SuiteNumber}
-use Rattle.session_suite.specs.declared.SuiteNumber.TheVariants.{Known, Unknown}
+use Rattle.session_suite.specs.declared.Suite.{Suite}
 use Rattle.session.specs.declared.Session.{Session}
 use Rattle.session_rules.specs.Valid.{valid}
-use Rattle.session_bytes.specs.Saved.{headed, session_from, decoded_to, unreadable, accepted, decode_suite, decode}
-use Rattle.session_bytes.specs.declared.Decoded.{Decoded}
-use Rattle.session_bytes.specs.declared.Decoding.{Decoding}
-use Rattle.session_bytes.specs.declared.Decoding.TheVariants.{Decoded as Done, Refused}
+use Rattle.session_bytes.specs.Saved.{headed, session_from, unreadable, accepted, decode_suite, decode}
 use Rattle.message_ciphers.specs.Aes.{aes_ciphers}
 use Rattle.message_answer.specs.Answer.{Answer, refused, Out, buffer}
 use Rattle.message_protocol.specs.RefusalKeeps.{order, writes, IsClosed}
@@ -37,8 +33,8 @@ served_call held c = on_session held (λ s. does aes_ciphers s c)
 never : {P : Type 0} → ◌≡◌ {A = ℕ} 0 1 → P
 never z = let o : ⊥ = omega arith in absurd o
 
-abbrev Only16 : Decoded → Type 0
-Only16 d = (r : Refusal) → d.answer ≡ Refused r → r ≡ BadSession
+abbrev Only16 : Result Session Refusal → Type 0
+Only16 d = (r : Refusal) → d ≡ Err r → r ≡ BadSession
 
 unreadable_16 : Only16 unreadable
 unreadable_16 r e = cc
@@ -47,14 +43,14 @@ accepted_16 : (s : Session) → Only16 (accepted s)
 unfolding accepted
 accepted_16 s = go (valid s)
   where
-    go : (v : Bool) → Only16 (if v then decoded_to s else unreadable)
+    go : (v : Bool) → Only16 (if v then Ok s else unreadable)
     go true = λ r e. never (cc)
     go false = unreadable_16
 
-suite_16 : (b : Bytes) (n : SuiteNumber) → Only16 (decode_suite b n)
+suite_16 : (b : Bytes) (n : Option Suite) → Only16 (decode_suite b n)
 unfolding decode_suite
-suite_16 b (Known suite) = accepted_16 (session_from b suite)
-suite_16 b Unknown = unreadable_16
+suite_16 b (Some suite) = accepted_16 (session_from b suite)
+suite_16 b None = unreadable_16
 
 decode_16 : (b : Bytes) → Only16 (decode b)
 unfolding decode
@@ -77,10 +73,18 @@ read_16 h = go (leb h.len (length h.bytes))
 abbrev pub Closing : Refusal → Type 0
 Closing r = (number r ≡ number BadMac) ⊎ (number r ≡ number BadPadding)
 
+-- the session that was read, closed, stands in its place
+pub record Closes (before after : Held) : Type 0 where
+  pub read : Session
+  pub session : Session
+  pub was_read : session_in before ≡ Ok read
+  pub is_closed : IsClosed read session
+  pub put_back : after ≡ put_in before session
+
 pub record ServedKeeps (held : Held) (c : Call) (r : Refusal) (buf : Bytes) : Type 0 where
   pub in_order : Memᴰ (number r) (number BadSession ∷ order c)
   pub output : buffer (writes c) buf (served_call held c).answer ≡ buf
-  pub closes : Closing r → (t : Session) × IsClosed (session_in held).session t × ((served_call held c).held ≡ put_in held t)
+  pub closes : Closing r → Closes held (served_call held c).held
   pub stays : (Closing r → ⊥) → (served_call held c).held ≡ held
 
 same_refusal : {A : Type 0} {q r : Refusal} → ◌≡◌ {A = Answer A} (refused q) (refused r) → q ≡ r
@@ -91,37 +95,41 @@ not_closing r e (inl h) = let z : ⊥ = omega (arith, ap number e) in absurd z
 not_closing r e (inr h) = let z : ⊥ = omega (arith, ap number e) in absurd z
 
 module _ (held : Held) (c : Call) (bytes : IsBytes held.bytes) (r : Refusal) (buf : Bytes) where
-  abbrev d : Decoded
-  d = session_in held
-
-  abbrev out : Out (Gives c)
-  out = does aes_ciphers d.session c
+  abbrev serves : Session → Out (Gives c)
+  serves s = does aes_ciphers s c
 
   output_stays : (served_call held c).answer ≡ refused r → buffer (writes c) buf (served_call held c).answer ≡ buf
   unfolding buffer
   output_stays e = ap (buffer (writes c) buf) e
 
-  by_answer : (a : Decoding) → d.answer ≡ a → (served_call held c).answer ≡ refused r → ServedKeeps held c r buf
+  by_reading : (a : Result Session Refusal) → session_in held ≡ a → (served_call held c).answer ≡ refused r → ServedKeeps held c r buf
   unfolding served_by
-  by_answer Done told e =
-      let x : served_call held c ≡ record { answer = out.answer; held = put_in held out.next } = ap (λ a. served_by a (put_in held) held out) told in
-      let k = demand1 d.session c r buf (sym (ap (λ (s : Served Held (Gives c)). s.answer) x) ∙ e) in
-      let f = read_from held told in
+  by_reading (Ok s) read e =
+      let out = serves s in
+      let x : served_call held c ≡ record { answer = out.answer; held = put_in held out.next } = ap (λ a. served_by a (put_in held) held serves) read in
+      let k = demand1 s c r buf (sym (ap (λ (y : Served Held (Gives c)). y.answer) x) ∙ e) in
+      let f = read_from held s read in
       record {
         in_order = Memᴰ.tail k.in_order;
         output = output_stays e;
-        closes = λ h. (out.next, k.closes h, ap (λ (s : Served Held (Gives c)). s.held) x);
-        stays = λ h. ap (λ (s : Served Held (Gives c)). s.held) x ∙ ap (put_in held) (k.stays h) ∙ f.back bytes;
+        closes = λ h. record {
+          read = s;
+          session = out.next;
+          was_read = read;
+          is_closed = k.closes h;
+          put_back = ap (λ (y : Served Held (Gives c)). y.held) x;
+        };
+        stays = λ h. ap (λ (y : Served Held (Gives c)). y.held) x ∙ ap (put_in held) (k.stays h) ∙ f.back bytes;
       }
-  by_answer (Refused q) told e =
-      let x : served_call held c ≡ record { answer = refused q; held = held } = ap (λ a. served_by a (put_in held) held out) told in
-      let is-16 : r ≡ BadSession = same_refusal (sym e ∙ ap (λ (s : Served Held (Gives c)). s.answer) x) ∙ read_16 held q told in
+  by_reading (Err q) read e =
+      let x : served_call held c ≡ record { answer = refused q; held = held } = ap (λ a. served_by a (put_in held) held serves) read in
+      let is-16 : r ≡ BadSession = same_refusal (sym e ∙ ap (λ (y : Served Held (Gives c)). y.answer) x) ∙ read_16 held q read in
       record {
         in_order = Memᴰ.head (ap number is-16);
         output = output_stays e;
         closes = λ h. not_closing r is-16 h;
-        stays = λ h. ap (λ (s : Served Held (Gives c)). s.held) x;
+        stays = λ h. ap (λ (y : Served Held (Gives c)). y.held) x;
       }
 
   pub served_keeps : (served_call held c).answer ≡ refused r → ServedKeeps held c r buf
-  served_keeps = by_answer d.answer refl
+  served_keeps = by_reading (session_in held) refl

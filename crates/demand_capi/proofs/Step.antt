@@ -9,7 +9,9 @@ use lib.ListN.{length, take, drop}
 use lib.Seq.{take_at}
 use Rattle.octets.specs.Bytes.{Bytes}
 use Rattle.octets.specs.Write.{over}
-use Rattle.refusal.specs.Refusal.{status_word, number}
+use Rattle.apdu.specs.declared.StatusWord.{StatusWord}
+use Rattle.apdu.specs.Apdu.{status_word, status_of}
+use Rattle.refusal.specs.Refusal.{number}
 use Rattle.refusal.specs.declared.Refusal.{Refusal}
 use Rattle.refusal.specs.declared.Refusal.TheVariants.{SessionClosed, BadSession}
 use Rattle.session.specs.declared.Session.{Session}
@@ -18,7 +20,7 @@ use Rattle.session_bytes.specs.Saved.{encode}
 use Rattle.session_bytes.specs.Lengths.{Lengths}
 use Rattle.message_ciphers.specs.Aes.{aes_ciphers}
 use Rattle.message_ciphers.proofs.AesLaws.{aes_mac_length}
-use Rattle.message_answer.specs.Message.{StatusWord, Response, CommandGiven}
+use Rattle.message_answer.specs.Message.{Response, CommandGiven}
 use Rattle.message_answer.specs.Answer.{Answer, refused, gave, Out, buffer}
 use Rattle.message_protocol.specs.Response.{response_accepted, host_unwraps}
 use Rattle.message_protocol.specs.RefusalKeeps.{order}
@@ -29,7 +31,7 @@ use Rattle.message_protocol.proofs.LengthsKept.{keeps_lengths}
 use Rattle.message_protocol.proofs.OpenServed.{hit, met, answers_none_with_1, Serves, stays_open}
 use Rattle.message_protocol.proofs.Theorems.{demand1}
 use Rattle.message_result.specs.Results.{wrap_answer, command_answer, response_answer}
-use Rattle.capi_values.specs.Values.{status_of, number_of, wrap_values, command_values, response_values}
+use Rattle.capi_values.specs.Values.{number_of, wrap_values, command_values, response_values}
 use Rattle.refusal.proofs.Numbers.{number_suc}
 use Rattle.capi_session.specs.SessionBytes.{Served, Held, put_in, own_buffer}
 use Rattle.capi_session.proofs.HandedOn.{reads_back, left_bytes_lem, on_read}
@@ -60,7 +62,7 @@ taken : (xs before after : Bytes) (n : ℕ) → n ≡ length xs → after ≡ ov
 unfolding over
 taken xs before after n en ea = ap (take n) ea ∙ take_at xs (drop (length xs) before) n (sym en)
 
-word_back : (sw : ℕ) (status : ℕ) (h : StatusWord) → status ≡ status_word h.sw1 h.sw2 → h ≡ status_of sw
+word_back : (sw : ℕ) (status : ℕ) (h : StatusWord) → status ≡ status_word h → h ≡ status_of sw
     → status_of status ≡ h
 word_back sw status h e q =
     let a : h.sw1 ≡ sw / 256 = ap (λ (x : StatusWord). x.sw1) q in
@@ -106,7 +108,7 @@ pub record Good (x : End) (s : Session) : Type 0 where
 pub lacks_16 : (c : Call) → Memᴰ 16 (order c) → ⊥
 unfolding hit
 lacks_16 (wrap_command side m room) d = let z : false ≡ true = met 16 _ d in never (cc)
-lacks_16 (unwrap_command side ins p1 p2 field room) d = let z : false ≡ true = met 16 _ d in never (cc)
+lacks_16 (unwrap_command side h field room) d = let z : false ≡ true = met 16 _ d in never (cc)
 lacks_16 (wrap_response side m room) d = let z : false ≡ true = met 16 _ d in never (cc)
 lacks_16 (unwrap_response side sw field room) d = let z : false ≡ true = met 16 _ d in never (cc)
 lacks_16 (close side) d = let z : false ≡ true = met 16 _ d in never (cc)

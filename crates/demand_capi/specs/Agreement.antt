@@ -114,5 +114,5 @@ ExceptionNoWider =
     → let K = (open_host_given h).keys in let st = begins h c in
     Trace K st calls → Excepted K st calls
     → ExceptedRun aes_ciphers K
-    (startRun (opening Host (open_host_given h).suite K).session (opening Card (open_card_given c).suite K).session)
+    (startRun (opening Host (open_host_given h).suite K).next (opening Card (open_card_given c).suite K).next)
     (map call calls)

@@ -29,7 +29,7 @@ use Rattle.refusal.specs.declared.Refusal.TheVariants.{BadSession}
 use Rattle.session.specs.declared.Side.{Side}
 use Rattle.message_answer.specs.Answer.{Answer, refused, gave}
 use Rattle.message_protocol.specs.Transcript.{Call, wrap_command, unwrap_command, wrap_response, unwrap_response, close, Gives}
-use Rattle.capi_values.specs.Values.{status_of}
+use Rattle.apdu.specs.Apdu.{status_of}
 use Rattle.capi_session.specs.SessionBytes.{Held}
 
 -- ---- openings
@@ -164,7 +164,7 @@ seen (closes side c) =
 abbrev pub call : Event → Call
 call (wraps_command side c) = let g = wrap_command_given c in wrap_command side g.message (length g.field)
 call (unwraps_command side c) =
-    let g = unwrap_command_given c in unwrap_command side g.ins g.p1 g.p2 g.field (length g.payload)
+    let g = unwrap_command_given c in unwrap_command side g.header g.field (length g.payload)
 call (wraps_response side c) = let g = wrap_response_given c in wrap_response side g.message (length g.field)
 call (unwraps_response side c) =
     let g = unwrap_response_given c in unwrap_response side g.sw g.field (length g.payload)

@@ -9,7 +9,7 @@ use Rattle.demand_capi.specs.Agreement.{State, at, ran, Trace}
 -- arguments of the types that C has: the data of a wrap is bytes, and so is SW2
 abbrev pub Typed : Call → Type 0
 Typed (wrap_command side m room) = IsBytes m.payload
-Typed (unwrap_command side ins p1 p2 field room) = Unit {0}
+Typed (unwrap_command side header field room) = Unit {0}
 Typed (wrap_response side m room) = IsBytes m.payload × (m.header.sw2 < 256)
 Typed (unwrap_response side sw field room) = sw.sw2 < 256
 Typed (close side) = Unit {0}

@@ -34,9 +34,9 @@ command w = (wrap_command_given w).message
 
 -- the card is given the field that the host wrapped, with the same header
 pub record CommandCarried (w : WrapsCommand) (u : UnwrapsCommand) (field : Bytes) : Type 0 where
-  pub ins : (unwrap_command_given u).ins ≡ (command w).header.ins
-  pub p1 : (unwrap_command_given u).p1 ≡ (command w).header.p1
-  pub p2 : (unwrap_command_given u).p2 ≡ (command w).header.p2
+  pub ins : (unwrap_command_given u).header.ins ≡ (command w).header.ins
+  pub p1 : (unwrap_command_given u).header.p1 ≡ (command w).header.p1
+  pub p2 : (unwrap_command_given u).header.p2 ≡ (command w).header.p2
   pub whole : (unwrap_command_given u).field ≡ field
 
 pub record CommandDelivered (w : WrapsCommand) (u : UnwrapsCommand) (h : Session) : Type 0 where

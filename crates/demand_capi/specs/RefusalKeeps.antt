@@ -2,7 +2,7 @@
 -- number of its order; it changes no byte of its output; and the session's bytes stay, save that after a wrong MAC or
 -- wrong padding they are those of the closed session. Bytes that hold no session are answered 16, before all else.
 -- The numbers that a call writes through pointers are part of its answer.
-use Rattle.std.specs.Prelude.{◌≡◌, Bool, false, ◌⊎◌, ◌↔◌, ℕ, drop}
+use Rattle.std.specs.Prelude.{◌≡◌, Bool, false, ◌⊎◌, ◌↔◌, ℕ, drop, Ok, Err}
 use mathlib.Core.List.{[], ◌∷◌, Memᴰ}
 use Rattle.octets.specs.Bytes.{Bytes}
 use Rattle.refusal.specs.Refusal.{number, size, status}
@@ -10,7 +10,6 @@ use Rattle.refusal.specs.declared.Refusal.{Refusal}
 use Rattle.refusal.specs.declared.Refusal.TheVariants.{BadMac, BadPadding, UnknownSuite, BadKeyLength, BadSession}
 use Rattle.session.specs.declared.Session.{Session}
 use Rattle.session_bytes.specs.Saved.{session_size}
-use Rattle.session_bytes.specs.declared.Decoding.TheVariants.{Refused as Unread}
 use Rattle.message_ciphers.specs.Aes.{aes_ciphers}
 use Rattle.message_answer.specs.Answer.{Answer, refused}
 use Rattle.message_protocol.specs.RefusalKeeps.{order, IsClosed}
@@ -49,8 +48,10 @@ answer_of e = (on_session (seen e).held (λ s. does aes_ciphers s (call e))).ans
 
 -- the bytes of the session that was read, closed
 pub record ClosedIn (e : Event) : Type 0 where
+  pub read : Session
   pub session : Session
-  pub is_closed : IsClosed (session_in (seen e).held).session session
+  pub was_read : session_in (seen e).held ≡ Ok read
+  pub is_closed : IsClosed read session
   pub held : (seen e).held_after ≡ put_in (seen e).held session
 
 abbrev pub Closing : ℕ → Type 0
@@ -76,7 +77,7 @@ RefusalKeeps = (e : Event) → ((seen e).number ≡ 0 → ⊥) → Keeps e
 -- 16 comes before all else: exactly where no session can be read
 abbrev pub SixteenExactly : Type 0
 SixteenExactly =
-    (e : Event) → ((seen e).number ≡ number BadSession) ↔ ((session_in (seen e).held).answer ≡ Unread BadSession)
+    (e : Event) → ((seen e).number ≡ number BadSession) ↔ (session_in (seen e).held ≡ Err BadSession)
 
 -- an answer that is no refusal keeps the bytes of the output after those that it writes
 abbrev pub RestKeeps : Type 0

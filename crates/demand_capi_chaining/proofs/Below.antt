@@ -26,12 +26,11 @@ lent x = record { ref_ptr = (0, 0); ghost_name = 0; now = x }
 abbrev pub fragments_command_below : FragmentCommand.Given → FragmentsCommand
 fragments_command_below g =
     let a = FragmentCommand.fragmented g in
-    let h = g.header in
     record {
       κs = ([], ([], tt));
-      args = (h.ins, (h.p1, (h.p2, (to g.field, (g.size, (g.number, (lent g.apdu, tt)))))));
+      args = (g.header, (to g.field, (g.size, (g.number, (lent g.apdu, tt)))));
       result = fragment_answer a;
-      exit = (h.ins, (h.p1, (h.p2, (to g.field, (g.size, (g.number, (at_last (lent g.apdu) (buffer (λ (b : Bytes). b) g.apdu a), tt)))))));
+      exit = (g.header, (to g.field, (g.size, (g.number, (at_last (lent g.apdu) (buffer (λ (b : Bytes). b) g.apdu a), tt)))));
       met = (refl, refl);
     }
 
@@ -49,12 +48,11 @@ reassembles_command_below g =
 abbrev pub fragments_response_below : FragmentResponse.Given → FragmentsResponse
 fragments_response_below g =
     let a = FragmentResponse.fragmented g in
-    let sw = g.status in
     record {
       κs = ([], ([], tt));
-      args = (sw.sw1, (sw.sw2, (to g.field, (g.at, (g.le, (lent g.apdu, tt))))));
+      args = (g.status, (to g.field, (g.at, (g.le, (lent g.apdu, tt)))));
       result = responseFragmentAnswer (next g.field g.at g.le) a;
-      exit = (sw.sw1, (sw.sw2, (to g.field, (g.at, (g.le, (at_last (lent g.apdu) (buffer (λ (b : Bytes). b) g.apdu a), tt))))));
+      exit = (g.status, (to g.field, (g.at, (g.le, (at_last (lent g.apdu) (buffer (λ (b : Bytes). b) g.apdu a), tt)))));
       met = (refl, refl);
     }
 

@@ -8,15 +8,17 @@ use borrow.Author.Tests.{ltb-true, ltb-false, ne_eqb}
 use lib.Dec.{ltb}
 use lib.ListN.{length, get_or, get_or-eq_default}
 use Rattle.octets.specs.Bytes.{Bytes, IsBytes}
+use Rattle.std.specs.Prelude.{Result, Ok, Err}
+use Rattle.apdu.specs.declared.Header.{Header}
 use Rattle.refusal.specs.Refusal.{number}
+use Rattle.refusal.specs.declared.Refusal.{Refusal}
 use Rattle.message_answer.specs.Answer.{Answer, refused, gave, buffer}
-use Rattle.chain_command.specs.Apdu.{Header, header_of, is_last}
+use Rattle.chain_command.specs.Apdu.{header_of, is_last}
 use Rattle.chain_command.specs.Fragment.{fragment_answer}
-use Rattle.chain_command.specs.Reassembly.{empty, total, reassembly_checks, taken, concluded, reassemble_command}
+use Rattle.chain_command.specs.Reassembly.{Reassembly, empty, total, reassembly_checks, taken, concluded, reassemble_command}
 use Rattle.chain_command.specs.declared.CommandChain.{CommandChain}
-use Rattle.chain_command.specs.declared.ReassemblyAnswer.{ReassemblyAnswer}
-use Rattle.chain_command.specs.declared.ReassemblyAnswer.TheVariants.{More, Whole, Refused}
-use Rattle.chain_command.specs.declared.Reassembly.{Reassembly}
+use Rattle.chain_command.specs.declared.CommandPart.{CommandPart}
+use Rattle.chain_command.specs.declared.CommandPart.TheVariants.{More, Whole}
 use Rattle.capi_values.specs.ChainingValues.{reassembly_values}
 use Rattle.capi_values.specs.declared.Values.{Values}
 use Rattle.capi_fragment_command.specs.Call as FragmentCommand
@@ -69,29 +71,29 @@ byte_at xs b i = go (ltb i (length xs)) refl
 
 module _ (c : CommandChain) (apdu : Bytes) (b : IsBytes apdu) where
   abbrev HeaderBytes : CommandChain → Type 0
-  HeaderBytes x = (x.ins < 256) × (x.p1 < 256) × (x.p2 < 256)
+  HeaderBytes x = (x.header.ins < 256) × (x.header.p1 < 256) × (x.header.p2 < 256)
 
-  taken_bytes : (n : ℕ) (last : Bool) → HeaderBytes (taken (header_of apdu) n last).chain
+  taken_bytes : (n : ℕ) (last : Bool) → HeaderBytes (taken (header_of apdu) n last).next
   unfolding taken
   taken_bytes n true = (omega arith, omega arith, omega arith)
   taken_bytes n false = (byte_at apdu b 1, byte_at apdu b 2, byte_at apdu b 3)
 
-  concluded_bytes : (a : Answer (Unit {0})) → HeaderBytes (concluded c apdu a).chain
+  concluded_bytes : (a : Answer (Unit {0})) → HeaderBytes (concluded c apdu a).next
   unfolding concluded
   concluded_bytes (refused q) = (omega arith, omega arith, omega arith)
   concluded_bytes (gave tt) = taken_bytes (total c apdu) (is_last apdu)
 
-  left_back : (room : ℕ) → chain_of (chain_number (reassemble_command c apdu room).chain) ≡ (reassemble_command c apdu room).chain
+  left_back : (room : ℕ) → chain_of (chain_number (reassemble_command c apdu room).next) ≡ (reassemble_command c apdu room).next
   unfolding reassemble_command
   left_back room = let h = concluded_bytes (reassembly_checks c apdu room) in chain_back _ h.0 h.1 h.2
 
-number_same : (r : ReassemblesCommand) → (reassemble_command_left r).chain ≡ chain_number (reassemble_below r).result.chain
+number_same : (r : ReassemblesCommand) → (reassemble_command_left r).chain ≡ chain_number (reassemble_below r).result.next
 number_same r = ap (λ (l : ReassembleCommand.Left). l.chain) (reassemble_command_named r)
 
 field_same : (r : ReassemblesCommand) → (reassemble_command_left r).field ≡ BelowCalls.field_after (reassemble_below r)
 field_same r = ap (λ (l : ReassembleCommand.Left). l.field) (reassemble_command_named r)
 
-chain_same : (r : ReassemblesCommand) → chain_of (reassemble_command_left r).chain ≡ (reassemble_below r).result.chain
+chain_same : (r : ReassemblesCommand) → chain_of (reassemble_command_left r).chain ≡ (reassemble_below r).result.next
 chain_same r =
     let g = reassemble_command_given r in
     ap chain_of (number_same r) ∙ left_back (chain_of g.chain) g.apdu (reassemble_command_bytes r) (length g.field)
@@ -108,10 +110,10 @@ handed_below n held c out (f ∷ fs) (r ∷ rs) e g t = (
   handed_below (reassemble_command_left r).chain (reassemble_command_left r).field _ _ fs rs (chain_same r) (field_same r) t.1,
 )
 
-told_in : (a : ReassemblyAnswer) (r : Reassembly) (field : Bytes) → r.answer ≡ a → told (ReassembleCommand.leaves r field) ≡ reassembly_values a
-told_in (More n sw1 sw2) r field e = rw e
-told_in (Whole n ins p1 p2) r field e = rw e
-told_in (Refused q) r field e = rw e
+told_in : (a : Result CommandPart Refusal) (r : Reassembly) (field : Bytes) → r.answer ≡ a → told (ReassembleCommand.leaves r field) ≡ reassembly_values a
+told_in (Ok (More n sw)) r field e = rw e
+told_in (Ok (Whole n h)) r field e = rw e
+told_in (Err q) r field e = rw e
 
 told_same : (r : ReassemblesCommand) → told (reassemble_command_left r) ≡ reassembly_values (reassemble_below r).result.answer
 told_same r =
@@ -127,7 +129,7 @@ all_told (r ∷ rs) = ap₂ (λ (x : Values) (l : List Values). x ∷ l) (told_s
 chain_after_lem : (n : ℕ) (c : CommandChain) (rs : List ReassemblesCommand) → n ≡ chain_number c
     → chain_after n rs ≡ chain_number (Below.chain_after c (map reassemble_below rs))
 chain_after_lem n c [] e = e
-chain_after_lem n c (r ∷ rs) e = chain_after_lem (reassemble_command_left r).chain (reassemble_below r).result.chain rs (number_same r)
+chain_after_lem n c (r ∷ rs) e = chain_after_lem (reassemble_command_left r).chain (reassemble_below r).result.next rs (number_same r)
 
 buffer_after_lem : (held out : Bytes) (rs : List ReassemblesCommand) → held ≡ out → buffer_after held rs ≡ Below.buffer_after out (map reassemble_below rs)
 buffer_after_lem held out [] e = e

@@ -9,10 +9,10 @@ use lib.Dec.{ltb}
 use Rattle.octets.specs.Bytes.{Bytes, IsBytes, zeros}
 use Rattle.octets.specs.Write.{over, put}
 use Rattle.octets.proofs.Tests.{both}
-use Rattle.message_answer.specs.Message.{status}
+use Rattle.apdu.specs.Apdu.{header, status}
 use Rattle.message_answer.specs.Answer.{require◌else◌⨾◌, buffer}
 use Rattle.message_permission.specs.Permission.{status_permitted}
-use Rattle.chain_command.specs.Apdu.{header, fragment_apdu, is_chained, is_last, well_formed}
+use Rattle.chain_command.specs.Apdu.{fragment_apdu, is_chained, is_last, well_formed}
 use Rattle.chain_command.specs.Fragment.{fragment_size, fragment_count, fragment, fragment_command}
 use Rattle.chain_command.specs.Reassembly.{possible, continues, reassembly_checks, taken, concluded, reassemble_command, written, reassembly_buffer}
 use Rattle.chain_response.specs.Fragment.{asked, announced, fragment_data, fragment_status, next, fragment as responseFragment, fragment_response}

@@ -14,26 +14,25 @@ use Rattle.refusal.specs.Refusal.{number, size, status}
 use Rattle.refusal.specs.declared.Refusal.{Refusal}
 use Rattle.refusal.proofs.Numbers.{number_suc}
 use Rattle.refusal.specs.declared.Refusal.TheVariants.{NotPermitted, TooLong, BufferTooSmall, Malformed, BrokenChain, FragmentTooLong}
-use Rattle.message_answer.specs.Message.{StatusWord}
+use Rattle.std.specs.Prelude.{Result, Ok, Err}
+use Rattle.apdu.specs.declared.Header.{Header}
+use Rattle.apdu.specs.declared.StatusWord.{StatusWord}
 use Rattle.message_answer.specs.Answer.{Answer, refused, gave, require◌else◌⨾◌, buffer}
 use Rattle.message_answer.proofs.Among.{Among, require_among, gave_among}
-use Rattle.chain_command.specs.Apdu.{Header, header_of, is_last}
+use Rattle.chain_command.specs.Apdu.{header_of, is_last}
 use Rattle.chain_command.specs.Fragment.{fragment_command, fragment_answer}
 use Rattle.chain_command.specs.Reassembly.{total, reassembly_checks, taken, concluded, reassemble_command}
 use Rattle.chain_command.specs.declared.CommandChain.{CommandChain}
-use Rattle.chain_command.specs.declared.FragmentAnswer.{FragmentAnswer}
-use Rattle.chain_command.specs.declared.FragmentAnswer.TheVariants.{Fragment, Refused as NotFragmented}
-use Rattle.chain_command.specs.declared.ReassemblyAnswer.{ReassemblyAnswer}
-use Rattle.chain_command.specs.declared.ReassemblyAnswer.TheVariants.{More, Whole, Refused as NotReassembled}
+use Rattle.chain_command.specs.declared.CommandPart.{CommandPart}
+use Rattle.chain_command.specs.declared.CommandPart.TheVariants.{More, Whole}
 use Rattle.chain_response.specs.Fragment.{next, fragment_response, fragment_answer as responseFragmentAnswer}
 use Rattle.chain_response.specs.Reassembly.{chain, status_of, is_more, total as responseTotal, reassembly_checks as responseChecks, taken as response_taken, concluded as responseConcluded, reassemble_response}
 use Rattle.chain_response.specs.declared.ResponseChain.{ResponseChain}
-use Rattle.chain_response.specs.declared.ResponseFragmentAnswer.{ResponseFragmentAnswer}
-use Rattle.chain_response.specs.declared.ResponseFragmentAnswer.TheVariants.{Fragment as ResponseFragment, Refused as ResponseNotFragmented}
-use Rattle.chain_response.specs.declared.ResponseReassemblyAnswer.{ResponseReassemblyAnswer}
-use Rattle.chain_response.specs.declared.ResponseReassemblyAnswer.TheVariants.{More as ResponseMore, Whole as ResponseWhole, Refused as ResponseNotReassembled}
-use Rattle.capi_values.specs.Values.{refusal_values}
-use Rattle.capi_values.specs.ChainingValues.{fragment_values, reassembly_values, response_fragment_values, response_reassembly_values}
+use Rattle.chain_response.specs.declared.ResponseFragment.{ResponseFragment}
+use Rattle.chain_response.specs.declared.ResponsePart.{ResponsePart}
+use Rattle.chain_response.specs.declared.ResponsePart.TheVariants.{More as ResponseMore, Whole as ResponseWhole}
+use Rattle.capi_values.specs.Values.{refusal_values, wrap_values}
+use Rattle.capi_values.specs.ChainingValues.{reassembly_values, response_fragment_values, response_reassembly_values}
 use Rattle.capi_values.specs.declared.Values.{Values}
 use Rattle.capi_reassemble_command.specs.ChainNumbers.{chain_number, chain_of}
 use Rattle.capi_fragment_command.specs.Call as FragmentCommand
@@ -111,9 +110,9 @@ record Told (room : ℕ) (v : Values) : Type 0 where
   no_length : (v.number ≡ 6 → ⊥) → v.len ≡ 0
   needed : v.number ≡ 6 → room < v.len
   no_status : v.status ≡ 0
-  no_ins : v.ins ≡ 0
-  no_p1 : v.p1 ≡ 0
-  no_p2 : v.p2 ≡ 0
+  no_ins : v.header.ins ≡ 0
+  no_p1 : v.header.p1 ≡ 0
+  no_p2 : v.header.p2 ≡ 0
   no_next : v.next ≡ 0
 
 told : (room : ℕ) (q : Refusal) → Plain room q → Told room (refusal_values q)
@@ -123,7 +122,7 @@ told room q p =
 abbrev Refuses : ℕ → Values → Type 0
 Refuses room v = (v.number ≡ 0 → ⊥) → Told room v
 
-fragment_told : (room : ℕ) (a : Answer Bytes) → AllPlain room a → Refuses room (fragment_values (fragment_answer a))
+fragment_told : (room : ℕ) (a : Answer Bytes) → AllPlain room a → Refuses room (wrap_values (fragment_answer a))
 fragment_told room (refused q) p h = told room q (p q refl)
 fragment_told room (gave b) p h = absurd (h refl)
 
@@ -158,27 +157,28 @@ response_reassembly_told room c bytes (gave tt) p h = absurd (h (response_taken_
 is_refused : (d : Below.Event) → ((Below.values d).number ≡ 0 → ⊥) → (q : Refusal) × Below.Refuses d q
 is_refused (Below.fragments_command f) h = go f.result refl h
   where
-    go : (a : FragmentAnswer) → f.result ≡ a → ((fragment_values a).number ≡ 0 → ⊥) → (q : Refusal) × (f.result ≡ NotFragmented q)
-    go (Fragment n) e h = absurd (h refl)
-    go (NotFragmented q) e h = (q, e)
+    go : (a : Result ℕ Refusal) → f.result ≡ a → ((wrap_values a).number ≡ 0 → ⊥) → (q : Refusal) × (f.result ≡ Err q)
+    go (Ok n) e h = absurd (h refl)
+    go (Err q) e h = (q, e)
 is_refused (Below.reassembles_command r) h = go r.result.answer refl h
   where
-    go : (a : ReassemblyAnswer) → r.result.answer ≡ a → ((reassembly_values a).number ≡ 0 → ⊥) → (q : Refusal) × (r.result.answer ≡ NotReassembled q)
-    go (More n sw1 sw2) e h = absurd (h refl)
-    go (Whole n ins p1 p2) e h = absurd (h refl)
-    go (NotReassembled q) e h = (q, e)
+    go : (a : Result CommandPart Refusal) → r.result.answer ≡ a → ((reassembly_values a).number ≡ 0 → ⊥)
+        → (q : Refusal) × (r.result.answer ≡ Err q)
+    go (Ok (More n sw)) e h = absurd (h refl)
+    go (Ok (Whole n p)) e h = absurd (h refl)
+    go (Err q) e h = (q, e)
 is_refused (Below.fragments_response f) h = go f.result refl h
   where
-    go : (a : ResponseFragmentAnswer) → f.result ≡ a → ((response_fragment_values a).number ≡ 0 → ⊥) → (q : Refusal) × (f.result ≡ ResponseNotFragmented q)
-    go (ResponseFragment n next) e h = absurd (h refl)
-    go (ResponseNotFragmented q) e h = (q, e)
+    go : (a : Result ResponseFragment Refusal) → f.result ≡ a → ((response_fragment_values a).number ≡ 0 → ⊥) → (q : Refusal) × (f.result ≡ Err q)
+    go (Ok x) e h = absurd (h refl)
+    go (Err q) e h = (q, e)
 is_refused (Below.reassembles_response r) h = go r.result.answer refl h
   where
-    go : (a : ResponseReassemblyAnswer) → r.result.answer ≡ a → ((response_reassembly_values a).number ≡ 0 → ⊥)
-        → (q : Refusal) × (r.result.answer ≡ ResponseNotReassembled q)
-    go (ResponseMore n le) e h = absurd (h refl)
-    go (ResponseWhole n sw1 sw2) e h = absurd (h refl)
-    go (ResponseNotReassembled q) e h = (q, e)
+    go : (a : Result ResponsePart Refusal) → r.result.answer ≡ a → ((response_reassembly_values a).number ≡ 0 → ⊥)
+        → (q : Refusal) × (r.result.answer ≡ Err q)
+    go (Ok (ResponseMore n le)) e h = absurd (h refl)
+    go (Ok (ResponseWhole n sw)) e h = absurd (h refl)
+    go (Err q) e h = (q, e)
 
 record Same (e : Event) (d : Below.Event) : Type 0 where
   order_is : Below.order d ≡ order e

@@ -8,18 +8,19 @@ use borrow.Author.Tests.{ne_eqb}
 use lib.Dec.{eqb}
 use lib.ListN.{length, length-map}
 use Rattle.octets.specs.Bytes.{Bytes, IsBytes}
-use Rattle.std.specs.Prelude.{if◌then◌else◌}
-use Rattle.refusal.specs.Refusal.{number, status, status_word}
-use Rattle.message_answer.specs.Message.{StatusWord, more_sw1}
+use Rattle.std.specs.Prelude.{if◌then◌else◌, Result, Ok, Err}
+use Rattle.apdu.specs.declared.StatusWord.{StatusWord}
+use Rattle.apdu.specs.Apdu.{status_word, status_of as statusOfNumber}
+use Rattle.refusal.specs.Refusal.{number}
+use Rattle.refusal.specs.declared.Refusal.{Refusal}
+use Rattle.message_answer.specs.Message.{more_sw1}
 use Rattle.message_answer.specs.Answer.{Answer, refused, gave, buffer}
 use Rattle.chain_response.specs.Fragment.{next, fragment_answer}
-use Rattle.chain_response.specs.Reassembly.{status_of, is_more, chain, empty, total, reassembly_checks, taken, concluded, reassemble_response, get_response}
+use Rattle.chain_response.specs.Reassembly.{ResponseReassembly, status_of, is_more, chain, empty, total, reassembly_checks, taken, concluded, reassemble_response, get_response}
 use Rattle.chain_response.specs.Chains.{le_after as leAfterBelow}
 use Rattle.chain_response.specs.declared.ResponseChain.{ResponseChain}
-use Rattle.chain_response.specs.declared.ResponseReassembly.{ResponseReassembly}
-use Rattle.chain_response.specs.declared.ResponseReassemblyAnswer.{ResponseReassemblyAnswer}
-use Rattle.chain_response.specs.declared.ResponseReassemblyAnswer.TheVariants.{More, Whole, Refused}
-use Rattle.capi_values.specs.Values.{status_of as statusOfNumber}
+use Rattle.chain_response.specs.declared.ResponsePart.{ResponsePart}
+use Rattle.chain_response.specs.declared.ResponsePart.TheVariants.{More, Whole}
 use Rattle.capi_values.specs.ChainingValues.{response_reassembly_values}
 use Rattle.capi_values.specs.declared.Values.{Values}
 use Rattle.capi_fragment_response.specs.Call as FragmentResponse
@@ -59,11 +60,11 @@ fragment_same f =
 abbrev le_of : ℕ → ℕ
 le_of sw = if eqb (statusOfNumber sw).sw1 more_sw1 then (statusOfNumber sw).sw2 else 0x00
 
-module _ (sw1 sw2 : ℕ) (b : sw2 < 256) where
-  high : status_word sw1 sw2 / 256 ≡ sw1
+module _ (sw : StatusWord) (b : sw.sw2 < 256) where
+  high : status_word sw / 256 ≡ sw.sw1
   high = omega arith
 
-  low : status_word sw1 sw2 % 256 ≡ sw2
+  low : status_word sw % 256 ≡ sw.sw2
   low = omega arith
 
 module _ (c : ResponseChain) (apdu : Bytes) (b : IsBytes apdu) where
@@ -73,10 +74,10 @@ module _ (c : ResponseChain) (apdu : Bytes) (b : IsBytes apdu) where
   taken_le n true e =
       let s = status_of apdu in
       let l = byte_at apdu b _ in
-      rw (high more_sw1 s.sw2 l, low more_sw1 s.sw2 l)
+      rw (high (record { sw1 = more_sw1; sw2 = s.sw2 }) l, low (record { sw1 = more_sw1; sw2 = s.sw2 }) l)
   taken_le n false e =
       let s = status_of apdu in
-      rw (high s.sw1 s.sw2 (byte_at apdu b _), e)
+      rw (high s (byte_at apdu b _), e)
 
   concluded_le : (room : ℕ) (a : Answer (Unit {0})) → AllPlain room a
       → le_of (response_reassembly_values (concluded c apdu a).answer).status ≡ leAfterBelow (concluded c apdu a).answer
@@ -96,7 +97,7 @@ le_same r =
 
 -- ---- reassembling
 
-chain_same : (r : ReassemblesResponse) → chain (reassemble_response_left r).chain ≡ (reassemble_below r).result.chain
+chain_same : (r : ReassemblesResponse) → chain (reassemble_response_left r).chain ≡ (reassemble_below r).result.next
 chain_same r = ap (λ (l : ReassembleResponse.Left). chain l.chain) (reassemble_response_named r)
 
 field_same : (r : ReassemblesResponse) → (reassemble_response_left r).field ≡ BelowCalls.response_field_after (reassemble_below r)
@@ -122,11 +123,11 @@ module _ (sw : StatusWord) (field : Bytes) where
             (reassemble_response_left r).field _ _ _ _ fs rs s.1 (le_same r) (chain_same r) (field_same r) t.1,
       )
 
-told_in : (a : ResponseReassemblyAnswer) (r : ResponseReassembly) (field : Bytes) → r.answer ≡ a
+told_in : (a : Result ResponsePart Refusal) (r : ResponseReassembly) (field : Bytes) → r.answer ≡ a
     → told (ReassembleResponse.leaves r field) ≡ response_reassembly_values a
-told_in (More n le) r field e = rw e
-told_in (Whole n sw1 sw2) r field e = rw e
-told_in (Refused q) r field e = rw e
+told_in (Ok (More n le)) r field e = rw e
+told_in (Ok (Whole n sw)) r field e = rw e
+told_in (Err q) r field e = rw e
 
 told_same : (r : ReassemblesResponse) → told (reassemble_response_left r) ≡ response_reassembly_values (reassemble_below r).result.answer
 told_same r =
@@ -142,7 +143,7 @@ all_told (r ∷ rs) = ap₂ (λ (x : Values) (l : List Values). x ∷ l) (told_s
 chain_after_lem : (n : ℕ) (c : ResponseChain) (rs : List ReassemblesResponse) → chain n ≡ c
     → chain (chain_after n rs) ≡ Below.chain_after c (map reassemble_below rs)
 chain_after_lem n c [] e = e
-chain_after_lem n c (r ∷ rs) e = chain_after_lem (reassemble_response_left r).chain (reassemble_below r).result.chain rs (chain_same r)
+chain_after_lem n c (r ∷ rs) e = chain_after_lem (reassemble_response_left r).chain (reassemble_below r).result.next rs (chain_same r)
 
 buffer_after_lem : (held out : Bytes) (rs : List ReassemblesResponse) → held ≡ out → buffer_after held rs ≡ Below.buffer_after out (map reassemble_below rs)
 buffer_after_lem held out [] e = e

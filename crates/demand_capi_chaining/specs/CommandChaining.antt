@@ -3,7 +3,8 @@ use Rattle.std.specs.Prelude.{◌≡◌, false, List, [], ◌∷◌, map, ℕ, s
 use Rattle.octets.specs.Bytes.{Bytes}
 use Rattle.std.specs.Prelude.{if◌then◌else◌}
 use Rattle.octets.specs.Write.{over}
-use Rattle.chain_command.specs.Apdu.{Header}
+use Rattle.apdu.specs.declared.Header.{Header}
+use Rattle.apdu.specs.Apdu.{header}
 use Rattle.chain_command.specs.Fragment.{longest_field, max_fragment, fragment_count, fragment}
 use Rattle.chain_command.specs.Chains.{answers_to}
 use Rattle.capi_values.specs.ChainingValues.{reassembly_values}
@@ -57,9 +58,7 @@ told l =
       len = l.written;
       status = l.sw;
       le = false;
-      ins = l.ins;
-      p1 = l.p1;
-      p2 = l.p2;
+      header = header l.ins l.p1 l.p2;
       next = 0;
     }
 

@@ -3,12 +3,14 @@ use Rattle.std.specs.Prelude.{◌≡◌, true, List, [], ◌∷◌, map, ℕ, �
 use Rattle.octets.specs.Bytes.{Bytes}
 use Rattle.std.specs.Prelude.{if◌then◌else◌}
 use Rattle.octets.specs.Write.{over}
-use Rattle.message_answer.specs.Message.{StatusWord, more_sw1}
+use Rattle.apdu.specs.declared.StatusWord.{StatusWord}
+use Rattle.apdu.specs.Apdu.{status_of}
+use Rattle.message_answer.specs.Message.{more_sw1}
 use Rattle.message_permission.specs.Permission.{status_permitted}
 use Rattle.chain_parts.specs.Parts.{ceiling}
 use Rattle.chain_response.specs.Fragment.{longest_field, fragment}
 use Rattle.chain_response.specs.Chains.{answers_to}
-use Rattle.capi_values.specs.Values.{status_of, given}
+use Rattle.capi_values.specs.Values.{given}
 use Rattle.capi_values.specs.ChainingValues.{response_reassembly_values}
 use Rattle.capi_values.specs.declared.Values.{Values}
 use Rattle.capi_fragment_response.specs.Call.{Left as FragmentLeft}

@@ -12,11 +12,12 @@ use Rattle.octets.specs.Bytes.{Bytes, tabulate}
 use Rattle.octets.specs.Write.{over}
 use Rattle.octets.proofs.Tabulate.{tabulate_ext}
 use Rattle.message_answer.specs.Answer.{Answer, gave, require◌else◌⨾◌, buffer}
-use Rattle.chain_command.specs.Apdu.{Header}
+use Rattle.std.specs.Prelude.{Result}
+use Rattle.apdu.specs.declared.Header.{Header}
+use Rattle.refusal.specs.declared.Refusal.{Refusal}
 use Rattle.chain_command.specs.Fragment.{longest_field, max_fragment, fragment_count, fragment, fragment_command, fragment_answer}
 use Rattle.chain_command.specs.Reassembly.{empty, reassemble_command, reassembly_buffer}
 use Rattle.chain_command.specs.Chains.{fragments, Reassembled, reassemble_all}
-use Rattle.chain_command.specs.declared.FragmentAnswer.{FragmentAnswer}
 use Rattle.chain_command.specs.declared.CommandChain.{CommandChain}
 use Rattle.chain_command.proofs.Theorems.{whole_command}
 use Rattle.demand_chaining.specs.Calls.{FragmentsCommand, ReassemblesCommand, header_given, field_given, size_asked, number_asked, fragment_before, fragment_after, field_after, apdu_in, apdu}
@@ -41,7 +42,7 @@ same_call : (h i : Header) (field bytes : Bytes) (size p k j room : ℕ) → h �
 same_call h i field bytes size p k j room a b c d = rw (a, b, c, d)
 
 -- what was given first is at the start of the buffer
-in_buffer : (answer : FragmentAnswer) (held out bytes : Bytes) (a : Answer Bytes) → a ≡ gave bytes → answer ≡ fragment_answer a → out ≡ buffer (λ (b : Bytes). b) held a
+in_buffer : (answer : Result ℕ Refusal) (held out bytes : Bytes) (a : Answer Bytes) → a ≡ gave bytes → answer ≡ fragment_answer a → out ≡ buffer (λ (b : Bytes). b) held a
     → apdu_in answer out ≡ bytes
 unfolding buffer over
 in_buffer answer held out bytes a g e f = rw (e, f, g) (take-append_seam bytes (drop (length bytes) held))
@@ -85,7 +86,7 @@ handed_is c held (f ∷ fs) [] t = absurd t
 handed_is c held (f ∷ fs) (r ∷ rs) t =
     let first : reassemble_command c (apdu f) (length held) ≡ r.result = sym (r.met.0 ∙ rw (t.0.0, t.0.1, t.0.2)) in
     let out : reassembly_buffer c (apdu f) held ≡ field_after r = sym (r.met.1 ∙ rw (t.0.0, t.0.1, t.0.2)) in
-    let rest = handed_is r.result.chain (field_after r) fs rs t.1 in
+    let rest = handed_is r.result.next (field_after r) fs rs t.1 in
     rw (first, out, rest)
 
 pub reassembles_commands : ReassemblesCommands

@@ -40,4 +40,4 @@ go h c (e ∷ es) step few all =
 pub honest_exchanges : HonestExchanges
 honest_exchanges h c hostOpened cardOpened same es few all =
     let o = demand2_openings h c hostOpened cardOpened same in
-    go h.result.session c.result.session es o.0 (omega (arith, o.1)) all
+    go h.result.next c.result.next es o.0 (omega (arith, o.1)) all

@@ -7,13 +7,11 @@ use contract.Lifetimes.{Lfts}
 use denote.Ref.{at_last}
 use borrow.Fn.Kinds.{Dens}
 use Rattle.octets.specs.Bytes.{Bytes}
-use Rattle.message_answer.specs.Message.{status}
 use Rattle.message_answer.specs.Answer.{buffer}
 use Rattle.chain_fragment_command.proofs.fragment_command.Kinds as fragment-command-kinds
 use Rattle.chain_reassemble_command.proofs.reassemble_command.Kinds as reassemble-command-kinds
 use Rattle.chain_fragment_response.proofs.fragment_response.Kinds as fragment-response-kinds
 use Rattle.chain_reassemble_response.proofs.reassemble_response.Kinds as reassemble-response-kinds
-use Rattle.chain_command.specs.Apdu.{header}
 use Rattle.chain_command.specs.Fragment.{fragment_command, fragment_answer}
 use Rattle.chain_command.specs.Reassembly.{reassemble_command, reassembly_buffer}
 use Rattle.chain_response.specs.Fragment.{next, fragment_response, fragment_answer as responseFragmentAnswer}
@@ -22,13 +20,13 @@ use Rattle.demand_chaining.specs.Calls.{FragmentsCommand, ReassemblesCommand, Fr
 
 pub fragments_command_runs : (κs : Lfts 2) (args : Dens κs fragment-command-kinds.ps) → FragmentsCommand
 fragments_command_runs κs args =
-    let out = args.1.1.1.1.1.1.0 in
-    let a = fragment_command (header args.0 args.1.0 args.1.1.0) args.1.1.1.0.now args.1.1.1.1.0 args.1.1.1.1.1.0 (length out.now) in
+    let out = args.1.1.1.1.0 in
+    let a = fragment_command args.0 args.1.0.now args.1.1.0 args.1.1.1.0 (length out.now) in
     record {
       κs = κs;
       args = args;
       result = fragment_answer a;
-      exit = (args.0, (args.1.0, (args.1.1.0, (args.1.1.1.0, (args.1.1.1.1.0, (args.1.1.1.1.1.0, (at_last out (buffer (λ (b : Bytes). b) out.now a), tt)))))));
+      exit = (args.0, (args.1.0, (args.1.1.0, (args.1.1.1.0, (at_last out (buffer (λ (b : Bytes). b) out.now a), tt)))));
       met = (refl, refl);
     }
 
@@ -45,13 +43,13 @@ reassembles_command_runs κs args =
 
 pub fragments_response_runs : (κs : Lfts 2) (args : Dens κs fragment-response-kinds.ps) → FragmentsResponse
 fragments_response_runs κs args =
-    let out = args.1.1.1.1.1.0 in
-    let a = fragment_response (status args.0 args.1.0) args.1.1.0.now args.1.1.1.0 args.1.1.1.1.0 (length out.now) in
+    let out = args.1.1.1.1.0 in
+    let a = fragment_response args.0 args.1.0.now args.1.1.0 args.1.1.1.0 (length out.now) in
     record {
       κs = κs;
       args = args;
-      result = responseFragmentAnswer (next args.1.1.0.now args.1.1.1.0 args.1.1.1.1.0) a;
-      exit = (args.0, (args.1.0, (args.1.1.0, (args.1.1.1.0, (args.1.1.1.1.0, (at_last out (buffer (λ (b : Bytes). b) out.now a), tt))))));
+      result = responseFragmentAnswer (next args.1.0.now args.1.1.0 args.1.1.1.0) a;
+      exit = (args.0, (args.1.0, (args.1.1.0, (args.1.1.1.0, (at_last out (buffer (λ (b : Bytes). b) out.now a), tt)))));
       met = (refl, refl);
     }
 

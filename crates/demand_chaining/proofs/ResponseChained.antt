@@ -10,17 +10,18 @@ use lib.ListN.{length, drop}
 use lib.Seq.{take-append_seam}
 use Rattle.octets.specs.Bytes.{Bytes, tabulate}
 use Rattle.octets.specs.Write.{over}
-use Rattle.message_answer.specs.Message.{StatusWord}
+use Rattle.std.specs.Prelude.{Result}
+use Rattle.apdu.specs.declared.StatusWord.{StatusWord}
+use Rattle.refusal.specs.declared.Refusal.{Refusal}
 use Rattle.message_permission.specs.Permission.{status_permitted}
 use Rattle.message_answer.specs.Answer.{Answer, gave, require◌else◌⨾◌, buffer}
 use Rattle.chain_parts.specs.Parts.{ceiling}
 use Rattle.chain_parts.proofs.Ceiling.{starts_within}
 use Rattle.chain_response.specs.Fragment.{longest_field, next, fragment, fragment_response, fragment_answer}
-use Rattle.chain_response.specs.Reassembly.{empty, reassemble_response, reassembly_buffer}
+use Rattle.chain_response.specs.Reassembly.{ResponseReassembly, empty, reassemble_response, reassembly_buffer}
 use Rattle.chain_response.specs.Chains.{le_after, Reassembled, requests}
-use Rattle.chain_response.specs.declared.ResponseFragmentAnswer.{ResponseFragmentAnswer}
+use Rattle.chain_response.specs.declared.ResponseFragment.{ResponseFragment}
 use Rattle.chain_response.specs.declared.ResponseChain.{ResponseChain}
-use Rattle.chain_response.specs.declared.ResponseReassembly.{ResponseReassembly}
 use Rattle.chain_response.proofs.Theorems.{whole_response}
 use Rattle.demand_chaining.specs.Calls.{FragmentsResponse, ReassemblesResponse, status_given, response_field_given, index_asked, le_asked, response_fragment_before, response_fragment_after, response_chain_given, bytes_given, response_field_before, response_field_after, bytes_in, bytes, next_in}
 use Rattle.demand_chaining.specs.ResponseChaining.{Asks, Handed, buffer_after, chain_after, ReassemblesResponses}
@@ -50,11 +51,11 @@ same_buffer : (c d : ResponseChain) (bytes given held out : Bytes) → c ≡ d �
 same_buffer c d bytes given held out e f g = rw (e, f, g)
 
 same_requests : (sw : StatusWord) (field : Bytes) (n at i : ℕ) (r s : ResponseReassembly) (held out : Bytes) → at ≡ i → r ≡ s → held ≡ out
-    → requests sw field n at (le_after r.answer) r.chain held ≡ requests sw field n i (le_after s.answer) s.chain out
+    → requests sw field n at (le_after r.answer) r.next held ≡ requests sw field n i (le_after s.answer) s.next out
 same_requests sw field n at i r s held out e f g = rw (e, f, g)
 
 -- what was given first is at the start of the buffer
-in_buffer : (answer : ResponseFragmentAnswer) (held out bytes : Bytes) (n : ℕ) (a : Answer Bytes) → a ≡ gave bytes → answer ≡ fragment_answer n a
+in_buffer : (answer : Result ResponseFragment Refusal) (held out bytes : Bytes) (n : ℕ) (a : Answer Bytes) → a ≡ gave bytes → answer ≡ fragment_answer n a
     → out ≡ buffer (λ (b : Bytes). b) held a → (bytes_in answer out ≡ bytes) × (next_in answer ≡ n)
 unfolding buffer over
 in_buffer answer held out bytes n a g e f =
@@ -97,10 +98,10 @@ module _ (sw : StatusWord) (field : Bytes) (permitted : status_permitted sw ≡ 
       let out : reassembly_buffer c (fragment sw field at le) held ≡ response_field_after r =
       sym (r.met.1 ∙ same_buffer (response_chain_given r) c (bytes_given r) _ (response_field_before r) held t.0.1 (t.0.3 ∙ g.0) t.0.2) in
       let e = same_requests sw field (length rs) _ (next_in f.result) _ r.result _ (response_field_after r) (sym g.1) first out in
-      let rest = e ∙ handed_is (next_in f.result) (le_after r.result.answer) r.result.chain (response_field_after r) fs rs
+      let rest = e ∙ handed_is (next_in f.result) (le_after r.result.answer) r.result.next (response_field_after r) fs rs
       (subst (λ (x : Reassembled). Within (length field) x.indices) e w.1) t.1 in
       λ i. record {
-        indices = at ∷ (requests sw field (length rs) (next field at le) (le_after (reassemble_response c (fragment sw field at le) (length held)).answer) (reassemble_response c (fragment sw field at le) (length held)).chain (reassembly_buffer c (fragment sw field at le) held)).indices;
+        indices = at ∷ (requests sw field (length rs) (next field at le) (le_after (reassemble_response c (fragment sw field at le) (length held)).answer) (reassemble_response c (fragment sw field at le) (length held)).next (reassembly_buffer c (fragment sw field at le) held)).indices;
         answers = (first i).answer ∷ (rest i).answers;
         chain = (rest i).chain;
         held = (rest i).held;

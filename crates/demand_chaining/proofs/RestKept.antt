@@ -13,26 +13,23 @@ use Rattle.octets.specs.Bytes.{Bytes}
 use Rattle.octets.specs.Write.{over, put}
 use Rattle.refusal.specs.declared.Refusal.{Refusal}
 use Rattle.refusal.specs.declared.Refusal.TheVariants.{TooLong, BufferTooSmall, Malformed, BrokenChain}
-use Rattle.message_answer.specs.Message.{StatusWord, max_command_field, max_response_field}
+use Rattle.std.specs.Prelude.{Result, Err}
+use Rattle.apdu.specs.declared.Header.{Header}
+use Rattle.apdu.specs.declared.StatusWord.{StatusWord}
+use Rattle.message_answer.specs.Message.{max_command_field, max_response_field}
 use Rattle.message_answer.specs.Answer.{Answer, refused, gave, buffer}
 use Rattle.message_answer.proofs.Required.{require_gave}
-use Rattle.chain_command.specs.Apdu.{Header, header_of, lc, data_of, is_last, well_formed}
+use Rattle.chain_command.specs.Apdu.{header_of, lc, data_of, is_last, well_formed}
 use Rattle.chain_command.specs.Fragment.{fragment_answer}
-use Rattle.chain_command.specs.Reassembly.{possible, continues, total, reassembly_checks, taken, concluded, reassemble_command, written, reassembly_buffer}
+use Rattle.chain_command.specs.Reassembly.{Reassembly, possible, continues, total, reassembly_checks, taken, concluded, reassemble_command, written, reassembly_buffer}
 use Rattle.chain_command.specs.declared.CommandChain.{CommandChain}
-use Rattle.chain_command.specs.declared.Reassembly.{Reassembly}
-use Rattle.chain_command.specs.declared.FragmentAnswer.{FragmentAnswer}
-use Rattle.chain_command.specs.declared.FragmentAnswer.TheVariants.{Refused as NotFragmented}
-use Rattle.chain_command.specs.declared.ReassemblyAnswer.TheVariants.{Refused as NotReassembled}
 use Rattle.chain_reassemble_command.proofs.Shapes.{holds_data}
 use Rattle.chain_response.specs.Fragment.{fragment_answer as responseFragmentAnswer}
-use Rattle.chain_response.specs.Reassembly.{status_of, is_more, data_length, data_of as responseData, well_formed as responseWellFormed, possible as responsePossible, total as responseTotal, reassembly_checks as responseChecks, taken as response_taken, concluded as responseConcluded, reassemble_response, written as response_written, reassembly_buffer as responseBuffer}
+use Rattle.chain_response.specs.Reassembly.{ResponseReassembly, status_of, is_more, data_length, data_of as responseData, well_formed as responseWellFormed, possible as responsePossible, total as responseTotal, reassembly_checks as responseChecks, taken as response_taken, concluded as responseConcluded, reassemble_response, written as response_written, reassembly_buffer as responseBuffer}
 use Rattle.chain_response.specs.declared.ResponseChain.{ResponseChain}
-use Rattle.chain_response.specs.declared.ResponseReassembly.{ResponseReassembly}
-use Rattle.chain_response.specs.declared.ResponseFragmentAnswer.{ResponseFragmentAnswer}
-use Rattle.chain_response.specs.declared.ResponseFragmentAnswer.TheVariants.{Refused as ResponseNotFragmented}
-use Rattle.chain_response.specs.declared.ResponseReassemblyAnswer.TheVariants.{Refused as ResponseNotReassembled}
-use Rattle.capi_values.specs.ChainingValues.{fragment_values, reassembly_values, response_fragment_values, response_reassembly_values}
+use Rattle.chain_response.specs.declared.ResponseFragment.{ResponseFragment}
+use Rattle.capi_values.specs.Values.{wrap_values}
+use Rattle.capi_values.specs.ChainingValues.{reassembly_values, response_fragment_values, response_reassembly_values}
 use Rattle.demand_chaining.specs.RefusalKeeps.{fragments_command, reassembles_command, fragments_response, reassembles_response, RestKeeps}
 
 -- ---- written at the start, and behind what stands there
@@ -57,15 +54,15 @@ module _ (xs : Bytes) (at n : ℕ) (ys : Bytes) (size : length ys ≡ n) (within
 
 -- ---- fragmenting
 
-fragment_rest : (result : FragmentAnswer) (a : Answer Bytes) (held out : Bytes) → result ≡ fragment_answer a → out ≡ buffer (λ (b : Bytes). b) held a
-    → ((q : Refusal) → result ≡ NotFragmented q → ⊥)
-    → ((fragment_values result).number ≡ 0) × (drop (fragment_values result).len out ≡ drop (fragment_values result).len held)
+fragment_rest : (result : Result ℕ Refusal) (a : Answer Bytes) (held out : Bytes) → result ≡ fragment_answer a → out ≡ buffer (λ (b : Bytes). b) held a
+    → ((q : Refusal) → result ≡ Err q → ⊥)
+    → ((wrap_values result).number ≡ 0) × (drop (wrap_values result).len out ≡ drop (wrap_values result).len held)
 unfolding buffer
 fragment_rest result (refused q) held out e f accepted = absurd (accepted q e)
 fragment_rest result (gave b) held out e f accepted = rw (e, f) (refl, over_rest held b)
 
-response_fragment_rest : (result : ResponseFragmentAnswer) (n : ℕ) (a : Answer Bytes) (held out : Bytes) → result ≡ responseFragmentAnswer n a
-    → out ≡ buffer (λ (b : Bytes). b) held a → ((q : Refusal) → result ≡ ResponseNotFragmented q → ⊥)
+response_fragment_rest : (result : Result ResponseFragment Refusal) (n : ℕ) (a : Answer Bytes) (held out : Bytes) → result ≡ responseFragmentAnswer n a
+    → out ≡ buffer (λ (b : Bytes). b) held a → ((q : Refusal) → result ≡ Err q → ⊥)
     → ((response_fragment_values result).number ≡ 0) × (drop (response_fragment_values result).len out ≡ drop (response_fragment_values result).len held)
 unfolding buffer
 response_fragment_rest result n (refused q) held out e f accepted = absurd (accepted q e)
@@ -101,7 +98,7 @@ module _ (c : CommandChain) (apdu held : Bytes) where
       (formed.0, leb-true (total c apdu) (length held) fits.0)
 
   reassembly_rest : (result : Reassembly) (out : Bytes) (a : Answer (Unit {0})) → reassembly_checks c apdu (length held) ≡ a
-      → result ≡ concluded c apdu a → out ≡ written c apdu held a → ((q : Refusal) → result.answer ≡ NotReassembled q → ⊥)
+      → result ≡ concluded c apdu a → out ≡ written c apdu held a → ((q : Refusal) → result.answer ≡ Err q → ⊥)
       → Left (reassembly_values result.answer).number (reassembly_values result.answer).len c.len held out
   unfolding concluded written
   reassembly_rest result out (refused q) t e f accepted = absurd (accepted q (ap (λ (x : Reassembly). x.answer) e))
@@ -128,7 +125,7 @@ module _ (c : ResponseChain) (bytes held : Bytes) where
       leb-true (responseTotal c bytes) (length held) fits.0
 
   response_reassembly_rest : (result : ResponseReassembly) (out : Bytes) (a : Answer (Unit {0})) → responseChecks c bytes (length held) ≡ a
-      → result ≡ responseConcluded c bytes a → out ≡ response_written c bytes held a → ((q : Refusal) → result.answer ≡ ResponseNotReassembled q → ⊥)
+      → result ≡ responseConcluded c bytes a → out ≡ response_written c bytes held a → ((q : Refusal) → result.answer ≡ Err q → ⊥)
       → Left (response_reassembly_values result.answer).number (response_reassembly_values result.answer).len c.len held out
   unfolding responseConcluded response_written
   response_reassembly_rest result out (refused q) t e f accepted = absurd (accepted q (ap (λ (x : ResponseReassembly). x.answer) e))

@@ -2,7 +2,7 @@
 use Rattle.std.specs.Prelude.{◌≡◌, List, [], ◌∷◌, map, ℕ, suc, ◌≤◌, length}
 use Rattle.octets.specs.Bytes.{Bytes}
 use Rattle.octets.specs.Write.{over}
-use Rattle.chain_command.specs.Apdu.{Header}
+use Rattle.apdu.specs.declared.Header.{Header}
 use Rattle.chain_command.specs.Fragment.{longest_field, max_fragment, fragment_count, fragment}
 use Rattle.chain_command.specs.Reassembly.{empty}
 use Rattle.chain_command.specs.Chains.{answers_to}
@@ -28,7 +28,7 @@ Handed c held [] [] = Unit {0}
 Handed c held [] (r ∷ rs) = ⊥
 Handed c held (f ∷ fs) [] = ⊥
 Handed c held (f ∷ fs) (r ∷ rs) =
-    ((chain_given r ≡ c) × (field_before r ≡ held) × (apdu_given r ≡ apdu f)) × Handed r.result.chain (field_after r) fs rs
+    ((chain_given r ≡ c) × (field_before r ≡ held) × (apdu_given r ≡ apdu f)) × Handed r.result.next (field_after r) fs rs
 
 -- the buffer, and the chain, after the last
 abbrev pub buffer_after : Bytes → List ReassemblesCommand → Bytes
@@ -37,7 +37,7 @@ buffer_after held (r ∷ rs) = buffer_after (field_after r) rs
 
 abbrev pub chain_after : CommandChain → List ReassemblesCommand → CommandChain
 chain_after c [] = c
-chain_after c (r ∷ rs) = chain_after r.result.chain rs
+chain_after c (r ∷ rs) = chain_after r.result.next rs
 
 pub record CommandReassembled (h : Header) (field : Bytes) (size : ℕ) (held : Bytes) (rs : List ReassemblesCommand) : Type 0 where
   pub answers : map (λ r. r.result.answer) rs ≡ answers_to h (length field) size

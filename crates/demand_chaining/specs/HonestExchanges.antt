@@ -1,8 +1,7 @@
 -- Demand 2, of whole runs: every list of at most 65,535 honest exchanges from opening succeeds, of the functions. Assumes nothing.
-use Rattle.std.specs.Prelude.{◌≡◌, List, [], ◌∷◌, ℕ, ◌≤◌, length}
+use Rattle.std.specs.Prelude.{◌≡◌, List, [], ◌∷◌, ℕ, ◌≤◌, length, Ok}
 use Rattle.octets.specs.Bytes.{Bytes}
 use Rattle.session.specs.declared.Side.TheVariants.{Host, Card}
-use Rattle.session.specs.declared.Opening.TheVariants.{Opened as Done}
 use Rattle.session.specs.declared.Session.{Session}
 use Rattle.message_answer.specs.Message.{command_limit}
 use Rattle.demand_calls.specs.Calls.{OpensHost, OpensCard, host_keys, card_keys, WrapsCommand, UnwrapsCommand, WrapsResponse, UnwrapsResponse, wraps_command, unwraps_command, wraps_response, unwraps_response, session, command, response, next}
@@ -54,5 +53,5 @@ AllSucceed (e ∷ es) = Succeeds e × AllSucceed es
 
 abbrev pub HonestExchanges : Type 0
 HonestExchanges =
-    (h : OpensHost) (c : OpensCard) → h.result.answer ≡ Done → c.result.answer ≡ Done → card_keys c ≡ host_keys h
-    → (es : List Exchange) → length es ≤ command_limit → AllHonest h.result.session c.result.session es → AllSucceed es
+    (h : OpensHost) (c : OpensCard) → h.result.answer ≡ Ok tt → c.result.answer ≡ Ok tt → card_keys c ≡ host_keys h
+    → (es : List Exchange) → length es ≤ command_limit → AllHonest h.result.next c.result.next es → AllSucceed es

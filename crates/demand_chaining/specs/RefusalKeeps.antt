@@ -1,6 +1,6 @@
 -- Demand 1 (rule 10.1), of the functions that fragment and reassemble: every refusal has a number of its call's order and changes no byte of the caller's buffer;
 -- one of reassembling empties the chain.
-use Rattle.std.specs.Prelude.{◌≡◌, ℕ, take, drop}
+use Rattle.std.specs.Prelude.{◌≡◌, ℕ, take, drop, Err}
 use mathlib.Core.List.{List, [], ◌∷◌, Memᴰ}
 use Rattle.octets.specs.Bytes.{Bytes}
 use Rattle.refusal.specs.Refusal.{number}
@@ -9,11 +9,7 @@ use Rattle.capi_values.specs.ChainingValues.{fragment_values, reassembly_values,
 use Rattle.capi_values.specs.Values.{refusal_values}
 use Rattle.capi_values.specs.declared.Values.{Values}
 use Rattle.chain_command.specs.Reassembly.{empty as emptyCommand}
-use Rattle.chain_command.specs.declared.FragmentAnswer.TheVariants.{Refused as NotFragmented}
-use Rattle.chain_command.specs.declared.ReassemblyAnswer.TheVariants.{Refused as NotReassembled}
 use Rattle.chain_response.specs.Reassembly.{empty as emptyResponse}
-use Rattle.chain_response.specs.declared.ResponseFragmentAnswer.TheVariants.{Refused as ResponseNotFragmented}
-use Rattle.chain_response.specs.declared.ResponseReassemblyAnswer.TheVariants.{Refused as ResponseNotReassembled}
 use Rattle.demand_chaining.specs.Calls.{FragmentsCommand, ReassemblesCommand, FragmentsResponse, ReassemblesResponse, fragment_before, fragment_after, chain_given, field_before, field_after, response_fragment_before, response_fragment_after, response_chain_given, response_field_before, response_field_after}
 
 pub data Event : Type 0 where
@@ -52,17 +48,17 @@ values (reassembles_response r) = response_reassembly_values r.result.answer
 -- ---- the demand
 
 abbrev pub Refuses : Event → Refusal → Type 0
-Refuses (fragments_command f) q = f.result ≡ NotFragmented q
-Refuses (reassembles_command r) q = r.result.answer ≡ NotReassembled q
-Refuses (fragments_response f) q = f.result ≡ ResponseNotFragmented q
-Refuses (reassembles_response r) q = r.result.answer ≡ ResponseNotReassembled q
+Refuses (fragments_command f) q = f.result ≡ Err q
+Refuses (reassembles_command r) q = r.result.answer ≡ Err q
+Refuses (fragments_response f) q = f.result ≡ Err q
+Refuses (reassembles_response r) q = r.result.answer ≡ Err q
 
 -- fragmenting keeps nothing between calls
 abbrev pub Dropped : Event → Type 0
 Dropped (fragments_command f) = Unit {0}
-Dropped (reassembles_command r) = r.result.chain ≡ emptyCommand
+Dropped (reassembles_command r) = r.result.next ≡ emptyCommand
 Dropped (fragments_response f) = Unit {0}
-Dropped (reassembles_response r) = r.result.chain ≡ emptyResponse
+Dropped (reassembles_response r) = r.result.next ≡ emptyResponse
 
 pub record Keeps (e : Event) (q : Refusal) : Type 0 where
   pub in_order : Memᴰ (number q) (order e)

@@ -2,7 +2,7 @@
 use Rattle.std.specs.Prelude.{◌≡◌, true, List, [], ◌∷◌, map, ℕ, ◌≤◌, length}
 use Rattle.octets.specs.Bytes.{Bytes}
 use Rattle.octets.specs.Write.{over}
-use Rattle.message_answer.specs.Message.{StatusWord}
+use Rattle.apdu.specs.declared.StatusWord.{StatusWord}
 use Rattle.message_permission.specs.Permission.{status_permitted}
 use Rattle.chain_parts.specs.Parts.{ceiling}
 use Rattle.chain_response.specs.Fragment.{longest_field, fragment}
@@ -26,7 +26,7 @@ Handed sw field at le c held [] (r ∷ rs) = ⊥
 Handed sw field at le c held (f ∷ fs) [] = ⊥
 Handed sw field at le c held (f ∷ fs) (r ∷ rs) =
     (Asks sw field at le f × (response_chain_given r ≡ c) × (response_field_before r ≡ held) × (bytes_given r ≡ bytes f))
-    × Handed sw field (next_in f.result) (le_after r.result.answer) r.result.chain (response_field_after r) fs rs
+    × Handed sw field (next_in f.result) (le_after r.result.answer) r.result.next (response_field_after r) fs rs
 
 -- the buffer, and the chain, after the last
 abbrev pub buffer_after : Bytes → List ReassemblesResponse → Bytes
@@ -35,7 +35,7 @@ buffer_after held (r ∷ rs) = buffer_after (response_field_after r) rs
 
 abbrev pub chain_after : ResponseChain → List ReassemblesResponse → ResponseChain
 chain_after c [] = c
-chain_after c (r ∷ rs) = chain_after r.result.chain rs
+chain_after c (r ∷ rs) = chain_after r.result.next rs
 
 pub record ResponseReassembled (sw : StatusWord) (field held : Bytes) (rs : List ReassemblesResponse) : Type 0 where
   pub answers : map (λ r. r.result.answer) rs ≡ answers_to sw (length field)

@@ -8,31 +8,31 @@ ghost use Rattle.octets.specs.Write.{Wrote};
 
 use octets::put_bytes;
 
+// A length field that was read: the length, and how many bytes the field has.
 #[derive(Clone, Copy)]
-pub enum LengthRead {
-    // The length, and how many bytes its field has.
-    Length(usize, usize),
-    BadForm,
+pub struct LengthField {
+    pub length: usize,
+    pub size: usize,
+}
+
+impl LengthField {
+    // Whether the length stood in its shortest form.
+    pub fn is_shortest(self) -> bool
+        ensures { result ≡ is_shortest self.length self.size }
+    {
+        self.size == length_size(self.length)
+    }
 }
 
 // The size of n's shortest length field.
 pub fn length_size(n: usize) -> usize
     ensures { result ≡ length (length_field n) }
 {
-    if n <= 127 {
-        return 1;
+    match n {
+        ..=127 => 1,
+        ..=255 => 2,
+        _ => 3,
     }
-    if n <= 255 {
-        return 2;
-    }
-    3
-}
-
-// Whether a length read from a field of that size stood in its shortest form.
-pub fn is_shortest(n: usize, size: usize) -> bool
-    ensures { result ≡ is_shortest n size }
-{
-    size == length_size(n)
 }
 
 // Writes n's shortest length field; the index behind it.
@@ -40,44 +40,31 @@ pub fn put_length(out: &mut [u8], at: usize, n: usize) -> usize
     requires { (n < 65536) × (at + length (length_field n) ≤ length out.old) }
     ensures { Wrote out.old at (length_field n) result out.new }
 {
-    if n < 128 {
-        return put_bytes(out, at, &[(n % 256) as u8]);
+    let [high, low] = (n as u16).to_be_bytes();
+    match n {
+        ..=127 => put_bytes(out, at, &[low]),
+        ..=255 => put_bytes(out, at, &[0x81, low]),
+        _ => put_bytes(out, at, &[0x82, high, low]),
     }
-    if n < 256 {
-        return put_bytes(out, at, &[0x81, (n % 256) as u8]);
-    }
-    put_bytes(out, at, &[0x82, (n / 256 % 256) as u8, (n % 256) as u8])
-}
-
-fn wide(b: u8) -> usize
-    ensures { result ≡ b }
-{
-    b as usize
 }
 
 // The length whose field starts at index `at`, in any form of one to three bytes.
-pub fn read_length(bytes: &[u8], at: usize) -> LengthRead
+pub fn read_length(bytes: &[u8], at: usize) -> Option<LengthField>
     ensures { result ≡ read_length bytes.now at }
 {
-    let end = bytes.len();
-    if end <= at {
-        return LengthRead::BadForm;
+    match bytes.get(at..)? {
+        [first, ..] if *first < 128 => Some(LengthField {
+            length: usize::from(*first),
+            size: 1,
+        }),
+        [0x81, low, ..] => Some(LengthField {
+            length: usize::from(*low),
+            size: 2,
+        }),
+        [0x82, high, low, ..] => Some(LengthField {
+            length: usize::from(u16::from_be_bytes([*high, *low])),
+            size: 3,
+        }),
+        _ => None,
     }
-    let b = bytes[at];
-    if b < 128 {
-        return LengthRead::Length(wide(b), 1);
-    }
-    if b == 0x81 {
-        if end - at <= 1 {
-            return LengthRead::BadForm;
-        }
-        return LengthRead::Length(wide(bytes[at + 1]), 2);
-    }
-    if b == 0x82 {
-        if end - at <= 2 {
-            return LengthRead::BadForm;
-        }
-        return LengthRead::Length(wide(bytes[at + 1]) * 256 + wide(bytes[at + 2]), 3);
-    }
-    LengthRead::BadForm
 }

@@ -14,11 +14,19 @@ pub const TAG_99: u8 = 0x99;
 pub const TAG_8E: u8 = 0x8E;
 
 // Whether an object must, may or must not be there.
-#[derive(Clone, Copy)]
+#[derive(Clone, Copy, PartialEq, Eq)]
 pub enum Need {
     Must,
     May,
     MustNot,
+}
+
+impl Need {
+    fn may(self) -> bool
+        ensures { result ≡ may self }
+    {
+        self != Need::MustNot
+    }
 }
 
 // The object between '87' and '8E': Le ('97') in a command, the status word ('99') in a response, which must be the one given.
@@ -26,6 +34,39 @@ pub enum Need {
 pub enum Second {
     Le(Need),
     Status(u8, u8),
+}
+
+impl Second {
+    pub fn tag(self) -> u8
+        ensures { result ≡ tag_of self }
+    {
+        match self {
+            Second::Le(_) => TAG_97,
+            Second::Status(_, _) => TAG_99,
+        }
+    }
+
+    pub fn need(self) -> Need
+        ensures { result ≡ need_of self }
+    {
+        match self {
+            Second::Le(need) => need,
+            Second::Status(_, _) => Need::Must,
+        }
+    }
+
+    // A tag's place in the side's list, from 1. It is 0, and no None, where the tag is not in the list: `allowed` then asks both by
+    // one comparison.
+    pub fn rank(self, tag: u8) -> usize
+        ensures { result ≡ rank self tag }
+    {
+        match tag {
+            TAG_87 => 1,
+            _ if tag == self.tag() => 2,
+            TAG_8E => 3,
+            _ => 0,
+        }
+    }
 }
 
 // What a field should hold: whether there is encrypted data, how long it may be, and the second object.
@@ -36,64 +77,18 @@ pub struct Wanted {
     pub second: Second,
 }
 
-pub fn second_tag(second: Second) -> u8
-    ensures { result ≡ tag_of second }
-{
-    match second {
-        Second::Le(_) => TAG_97,
-        Second::Status(_, _) => TAG_99,
+impl Wanted {
+    // Whether an object of that tag may stand after one at place `after` of the side's list.
+    pub fn allowed(self, after: usize, tag: u8) -> bool
+        ensures { result ≡ allowed self after tag }
+    {
+        if self.second.rank(tag) <= after {
+            return false;
+        }
+        match tag {
+            TAG_87 => self.data.may(),
+            TAG_8E => true,
+            _ => self.second.need().may(),
+        }
     }
-}
-
-pub fn second_need(second: Second) -> Need
-    ensures { result ≡ need_of second }
-{
-    match second {
-        Second::Le(need) => need,
-        Second::Status(_, _) => Need::Must,
-    }
-}
-
-fn may(need: Need) -> bool
-    ensures { result ≡ may need }
-{
-    match need {
-        Need::Must => true,
-        Need::May => true,
-        Need::MustNot => false,
-    }
-}
-
-// A tag's place in the side's list, from 1; 0 where it is not in it.
-pub fn rank(second: Second, tag: u8) -> usize
-    ensures { result ≡ rank second tag }
-{
-    if tag == TAG_87 {
-        return 1;
-    }
-    if tag == second_tag(second) {
-        return 2;
-    }
-    if tag == TAG_8E {
-        return 3;
-    }
-    0
-}
-
-// Whether an object of that tag may stand after one at place `after` of the side's list.
-pub fn allowed(wanted: Wanted, after: usize, tag: u8) -> bool
-    ensures { result ≡ allowed wanted after tag }
-{
-    let data = wanted.data;
-    let second = wanted.second;
-    if rank(second, tag) <= after {
-        return false;
-    }
-    if tag == TAG_87 {
-        return may(data);
-    }
-    if tag == TAG_8E {
-        return true;
-    }
-    may(second_need(second))
 }

@@ -16,10 +16,10 @@ use Rattle.field_expected.specs.declared.Second.{Second}
 use Rattle.field_expected.specs.declared.Wanted.{Wanted}
 use Rattle.field_object.specs.declared.Breach.{Breach}
 use Rattle.field_object.specs.declared.DataObject.{DataObject}
-use Rattle.field_object.specs.declared.ObjectRead.{ObjectRead}
-use Rattle.field_object.specs.declared.ObjectRead.TheVariants.{Object, Malformed}
+use Rattle.std.specs.Prelude.{Result, Ok, Err}
 use Rattle.field_read.specs.declared.Objects.{Objects}
-use Rattle.field_read.specs.declared.FieldRead.TheVariants.{Read, Malformed as BadField, Missing}
+use Rattle.field_read.specs.declared.FieldError.{FieldError}
+use Rattle.field_read.specs.declared.FieldError.TheVariants.{Malformed, Missing}
 use Rattle.field_object.proofs.Inversion.{Stands, stands, later, rank_most}
 
 -- an object of that tag stands from at to next and takes the objects from o to o'
@@ -77,21 +77,21 @@ which second tag r h = go (eqb tag 0x87) refl (eqb tag (tag_of second)) refl (eq
 
 -- ---- one step of the walk, and its end
 
-no_breach : {b : Breach} {p : Objects} {P : Type 0} → BadField b ≡ Read p → P
+no_breach : {b : Breach} {p : Objects} {P : Type 0} → ◌≡◌ {A = Result Objects FieldError} (Err (Malformed b)) (Ok p) → P
 no_breach e = let z : ◌≡◌ {A = ℕ} 0 1 = cc in let n : ⊥ = omega arith in absurd n
 
-none_missing : {tag n : ℕ} {p : Objects} {P : Type 0} → Missing tag n ≡ Read p → P
+none_missing : {tag n : ℕ} {p : Objects} {P : Type 0} → ◌≡◌ {A = Result Objects FieldError} (Err (Missing tag n)) (Ok p) → P
 none_missing e = let z : ◌≡◌ {A = ℕ} 0 1 = cc in let n : ⊥ = omega arith in absurd n
 
-read_same : {o p : Objects} → Read o ≡ Read p → o ≡ p
+read_same : {o p : Objects} → ◌≡◌ {A = Result Objects FieldError} (Ok o) (Ok p) → o ≡ p
 read_same e = cc
 
-ended_read : (w : Wanted) (o : Objects) (r n : ℕ) (p : Objects) → ended w o r n ≡ Read p → (3 ≤ r) × (o ≡ p)
+ended_read : (w : Wanted) (o : Objects) (r n : ℕ) (p : Objects) → ended w o r n ≡ Ok p → (3 ≤ r) × (o ≡ p)
 unfolding ended
 ended_read w o r n p e = go (lacks w.«data» (ltb 0 o.ciphertext_len)) (lacks (need_of w.second) o.second) (ltb r 3) refl e
   where
     go : (s t u : Bool) → ltb r 3 ≡ u
-        → (if s then Missing 0x87 n else (if t then Missing (tag_of w.second) n else (if u then Missing 0x8E n else Read o))) ≡ Read p
+        → (if s then Err (Missing 0x87 n) else (if t then Err (Missing (tag_of w.second) n) else (if u then Err (Missing 0x8E n) else Ok o))) ≡ Ok p
         → (3 ≤ r) × (o ≡ p)
     go true t u g h = none_missing h
     go false true u g h = none_missing h
@@ -100,50 +100,50 @@ ended_read w o r n p e = go (lacks w.«data» (ltb 0 o.ciphertext_len)) (lacks (
 
 -- the walk goes on with an object at index at
 abbrev Goes : Wanted → Bytes → Objects → ℕ → Objects → ℕ → ℕ → Type 0
-Goes w xs p k o r at = (d : DataObject) × (Stands w r xs at d × (walk k w xs (noted o d) (rank w.second d.tag) d.next ≡ Read p))
+Goes w xs p k o r at = (d : DataObject) × (Stands w r xs at d × (walk k w xs (noted o d) (rank w.second d.tag) d.next ≡ Ok p))
 
-ended_complete : (w : Wanted) (o : Objects) (r n : ℕ) (p : Objects) → ended w o r n ≡ Read p → Complete w o
+ended_complete : (w : Wanted) (o : Objects) (r n : ℕ) (p : Objects) → ended w o r n ≡ Ok p → Complete w o
 unfolding ended
 ended_complete w o r n p e =
     go (lacks w.«data» (ltb 0 o.ciphertext_len)) refl (lacks (need_of w.second) o.second) refl (ltb r 3) e
   where
     go : (s : Bool) → lacks w.«data» (ltb 0 o.ciphertext_len) ≡ s → (t : Bool) → lacks (need_of w.second) o.second ≡ t → (u : Bool)
-        → (if s then Missing 0x87 n else (if t then Missing (tag_of w.second) n else (if u then Missing 0x8E n else Read o))) ≡ Read p → Complete w o
+        → (if s then Err (Missing 0x87 n) else (if t then Err (Missing (tag_of w.second) n) else (if u then Err (Missing 0x8E n) else Ok o))) ≡ Ok p → Complete w o
     go true f t g u h = none_missing h
     go false f true g u h = none_missing h
     go false f false g u h = (f, g)
 
 module _ (w : Wanted) (xs : Bytes) (p : Objects) where
-  step : (k : ℕ) (o : Objects) (r at : ℕ) → walk (suc k) w xs o r at ≡ Read p
-      → ((length xs ≤ at) × (ended w o r (length xs) ≡ Read p))
+  step : (k : ℕ) (o : Objects) (r at : ℕ) → walk (suc k) w xs o r at ≡ Ok p
+      → ((length xs ≤ at) × (ended w o r (length xs) ≡ Ok p))
       ⊎ Goes w xs p k o r at
   unfolding walk on_object
   step k o r at e = go (ltb at (length xs)) refl (read_object w r xs at) refl e
     where
-      go : (t : Bool) → ltb at (length xs) ≡ t → (q : ObjectRead) → read_object w r xs at ≡ q
-          → (if t then on_object q (λ d. walk k w xs (noted o d) (rank w.second d.tag) d.next) else ended w o r (length xs)) ≡ Read p
-          → ((length xs ≤ at) × (ended w o r (length xs) ≡ Read p))
+      go : (t : Bool) → ltb at (length xs) ≡ t → (q : Result DataObject Breach) → read_object w r xs at ≡ q
+          → (if t then on_object q (λ d. walk k w xs (noted o d) (rank w.second d.tag) d.next) else ended w o r (length xs)) ≡ Ok p
+          → ((length xs ≤ at) × (ended w o r (length xs) ≡ Ok p))
           ⊎ Goes w xs p k o r at
       go false f q g h = inl (ltb-false at (length xs) f, h)
-      go true f (Object d) g h = inr (d, (stands w r xs at d g, h))
-      go true f (Malformed b) g h = no_breach h
+      go true f (Ok d) g h = inr (d, (stands w r xs at d g, h))
+      go true f (Err b) g h = no_breach h
 
   -- before '8E' the field cannot have ended
-  more : (k : ℕ) (o : Objects) (r at : ℕ) → r < 3 → walk (suc k) w xs o r at ≡ Read p
+  more : (k : ℕ) (o : Objects) (r at : ℕ) → r < 3 → walk (suc k) w xs o r at ≡ Ok p
       → Goes w xs p k o r at
   more k o r at h e = go (step k o r at e)
     where
-      go : ((length xs ≤ at) × (ended w o r (length xs) ≡ Read p))
+      go : ((length xs ≤ at) × (ended w o r (length xs) ≡ Ok p))
           ⊎ Goes w xs p k o r at
           → Goes w xs p k o r at
       go (inl (l, f)) = let g : 3 ≤ r = (ended_read w o r (length xs) p f).0 in let z : ⊥ = omega arith in absurd z
       go (inr s) = s
 
   -- after '8E' it must have
-  no_more : (k : ℕ) (o : Objects) (r at : ℕ) → 3 ≤ r → walk (suc k) w xs o r at ≡ Read p → (length xs ≤ at) × (o ≡ p)
+  no_more : (k : ℕ) (o : Objects) (r at : ℕ) → 3 ≤ r → walk (suc k) w xs o r at ≡ Ok p → (length xs ≤ at) × (o ≡ p)
   no_more k o r at h e = go (step k o r at e)
     where
-      go : ((length xs ≤ at) × (ended w o r (length xs) ≡ Read p))
+      go : ((length xs ≤ at) × (ended w o r (length xs) ≡ Ok p))
           ⊎ Goes w xs p k o r at
           → (length xs ≤ at) × (o ≡ p)
       go (inl (l, f)) = (l, (ended_read w o r (length xs) p f).1)
@@ -161,12 +161,12 @@ module _ (w : Wanted) (xs : Bytes) (p : Objects) where
   place_of {r} {at} {d} s = ap (λ (d : DataObject). rank w.second d.tag) s.same
 
   mac_part : (k : ℕ) (o : Objects) (r at : ℕ) (d : DataObject) → Stands w r xs at d → get_or xs at 0 ≡ 0x8E → rank w.second (get_or xs at 0) ≡ 3
-      → walk (suc k) w xs (noted o d) (rank w.second d.tag) d.next ≡ Read p → Part w xs at 0x8E (length xs) o p
+      → walk (suc k) w xs (noted o d) (rank w.second d.tag) d.next ≡ Ok p → Part w xs at 0x8E (length xs) o p
   mac_part k o r at d s t h e =
       let q : (length xs ≤ d.next) × (noted o d ≡ p) = no_more k (noted o d) (rank w.second d.tag) d.next (omega (arith, place_of s, h)) e in
       record { r = r; d = d; here = s; tagged = t; ends = omega (arith, q.0, next_within s); notes = q.1 }
 
-  mac_last : (k : ℕ) (o : Objects) (r at : ℕ) → r ≡ 2 → walk (suc (suc k)) w xs o r at ≡ Read p → Part w xs at 0x8E (length xs) o p
+  mac_last : (k : ℕ) (o : Objects) (r at : ℕ) → r ≡ 2 → walk (suc (suc k)) w xs o r at ≡ Ok p → Part w xs at 0x8E (length xs) o p
   mac_last k o r at h e = go (more (suc k) o r at (omega arith) e)
     where
       go : Goes w xs p (suc k) o r at → Part w xs at 0x8E (length xs) o p
@@ -178,7 +178,7 @@ module _ (w : Wanted) (xs : Bytes) (p : Objects) where
           by (inr (inr (t, g))) = mac_part k o r at d s t g f
 
   tail_from : (k : ℕ) (o : Objects) (r at : ℕ) (d : DataObject) → Stands w r xs at d → 1 < rank w.second (get_or xs at 0)
-      → walk (suc (suc k)) w xs (noted o d) (rank w.second d.tag) d.next ≡ Read p → Tail w xs at o p
+      → walk (suc (suc k)) w xs (noted o d) (rank w.second d.tag) d.next ≡ Ok p → Tail w xs at o p
   tail_from k o r at d s h e = by (which w.second (get_or xs at 0) 1 h)
     where
       by : Which w.second (get_or xs at 0) → Tail w xs at o p
@@ -192,7 +192,7 @@ module _ (w : Wanted) (xs : Bytes) (p : Objects) where
           }
       by (inr (inr (t, g))) = record { b = at; o2 = o; second = inl (refl, refl); last = mac_part (suc k) o r at d s t g e }
 
-  pub accepted : read_field w xs ≡ Read p → Accepted w xs p
+  pub accepted : read_field w xs ≡ Ok p → Accepted w xs p
   unfolding read_field
   accepted e = go (more 3 none 0 0 (lit≤ tt) e)
     where
@@ -219,19 +219,19 @@ module _ (w : Wanted) (xs : Bytes) (p : Objects) where
           by (inr (inl (t, g))) = at_once (omega (arith, g))
           by (inr (inr (t, g))) = at_once (omega (arith, g))
 
-  at_end : (o : Objects) (r : ℕ) → ended w o r (length xs) ≡ Read p → Complete w p
+  at_end : (o : Objects) (r : ℕ) → ended w o r (length xs) ≡ Ok p → Complete w p
   at_end o r e = subst (Complete w) (ended_read w o r (length xs) p e).1 (ended_complete w o r (length xs) p e)
 
-  complete : (k : ℕ) (o : Objects) (r at : ℕ) → walk k w xs o r at ≡ Read p → Complete w p
+  complete : (k : ℕ) (o : Objects) (r at : ℕ) → walk k w xs o r at ≡ Ok p → Complete w p
   unfolding walk
   complete zero o r at e = at_end o r e
   complete (suc k) o r at e = go (complete k) (step k o r at e)
     where
-      go : ((o : Objects) (r at : ℕ) → walk k w xs o r at ≡ Read p → Complete w p)
-          → ((length xs ≤ at) × (ended w o r (length xs) ≡ Read p)) ⊎ Goes w xs p k o r at → Complete w p
+      go : ((o : Objects) (r at : ℕ) → walk k w xs o r at ≡ Ok p → Complete w p)
+          → ((length xs ≤ at) × (ended w o r (length xs) ≡ Ok p)) ⊎ Goes w xs p k o r at → Complete w p
       go rest (inl (l, f)) = at_end o r f
       go rest (inr (d, (s, f))) = rest (noted o d) (rank w.second d.tag) d.next f
 
-  pub all_there : read_field w xs ≡ Read p → Complete w p
+  pub all_there : read_field w xs ≡ Ok p → Complete w p
   unfolding read_field
   all_there e = complete 4 none 0 0 e

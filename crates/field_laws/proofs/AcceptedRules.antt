@@ -19,7 +19,7 @@ use Rattle.field_expected.specs.declared.Need.TheVariants.{Must, May, MustNot}
 use Rattle.field_expected.specs.declared.Wanted.{Wanted}
 use Rattle.field_object.specs.declared.DataObject.{DataObject}
 use Rattle.field_read.specs.declared.Objects.{Objects}
-use Rattle.field_read.specs.declared.FieldRead.TheVariants.{Read}
+use Rattle.std.specs.Prelude.{Ok}
 use Rattle.field_laws.specs.Written.{Conforms}
 use Rattle.field_laws.proofs.Noted.{not_data, not_mac}
 use Rattle.field_laws.proofs.Acceptance.{Optional, all_there}
@@ -68,7 +68,7 @@ data_size w tag n e f =
 
 -- ---- the theorem
 
-module _ (w : Wanted) (xs : Bytes) (p : Objects) (e : read_field w xs ≡ Read p) where
+module _ (w : Wanted) (xs : Bytes) (p : Objects) (e : read_field w xs ≡ Ok p) where
   abbrev o1 : Objects
   o1 = (parts w xs p e).o1
 

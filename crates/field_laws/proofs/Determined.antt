@@ -10,8 +10,7 @@ use lib.ListN.{length, get_or, take, drop}
 use lib.Seq.{get_or-take, length-take-le, take-take, take-add, drop_at}
 use Rattle.octets.proofs.Tests.{both}
 use Rattle.octets.specs.Bytes.{Bytes}
-use Rattle.field_ber_length.specs.Length.{read_length}
-use Rattle.field_ber_length.specs.declared.LengthRead.TheVariants.{Length}
+use Rattle.field_ber_length.specs.Length.{found, read_length}
 use Rattle.field_ber_length.proofs.LengthForms.{read_prefix}
 use Rattle.field_expected.specs.Wanted.{lacks, tag_of, need_of}
 use Rattle.field_object.specs.Values.{size_of, right_size, right_second, right_value}
@@ -21,7 +20,7 @@ use Rattle.field_expected.specs.declared.Second.TheVariants.{Status}
 use Rattle.field_expected.specs.declared.Wanted.{Wanted}
 use Rattle.field_object.specs.declared.DataObject.{DataObject}
 use Rattle.field_read.specs.declared.Objects.{Objects}
-use Rattle.field_read.specs.declared.FieldRead.TheVariants.{Read}
+use Rattle.std.specs.Prelude.{Ok}
 use Rattle.field_object.proofs.Inversion.{some_byte}
 use Rattle.field_laws.specs.Covered.{data_behind, end_behind, data_in, data_end, second_in, sw1_in, sw2_in, Determined}
 use Rattle.field_laws.proofs.Noted.{not_data, not_mac, noted_data, noted_mac, noted_second}
@@ -113,7 +112,7 @@ data_said w xs a m o h l part =
     let n : ℕ = part.here.n in
     let size : ℕ = part.here.size in
     let t : get_or (take m xs) 0 0 ≡ 0x87 = get_or-take m xs 0 0 (omega (arith, next_of part)) ∙ part.tagged in
-    let r : read_length (take m xs) 1 ≡ Length n size = read_prefix xs 1 n size part.here.read m (omega (arith, next_of part)) l in
+    let r : read_length (take m xs) 1 ≡ found n size = read_prefix xs 1 n size part.here.read m (omega (arith, next_of part)) l in
     record {
       unset = ap (λ (o : Objects). o.second) (noted_first part);
       encrypted =
@@ -147,7 +146,7 @@ status_value second sw1 sw2 e xs at f =
 
 -- ---- the theorem
 
-module _ (w : Wanted) (xs : Bytes) (p : Objects) (e : read_field w xs ≡ Read p) where
+module _ (w : Wanted) (xs : Bytes) (p : Objects) (e : read_field w xs ≡ Ok p) where
   pub parts : Accepted w xs p
   parts = accepted w xs p e
 
@@ -233,7 +232,7 @@ module _ (w : Wanted) (xs : Bytes) (p : Objects) (e : read_field w xs ≡ Read p
       }
 
 -- two accepted fields with the same bytes before '8E' hold the same
-module _ (w v : Wanted) (xs ys : Bytes) (p q : Objects) (e : read_field w xs ≡ Read p) (f : read_field v ys ≡ Read q) (c : covered_of xs p ≡ covered_of ys q) where
+module _ (w v : Wanted) (xs ys : Bytes) (p q : Objects) (e : read_field w xs ≡ Ok p) (f : read_field v ys ≡ Ok q) (c : covered_of xs p ≡ covered_of ys q) where
   pub same_data : ciphertext_of xs p ≡ ciphertext_of ys q
   same_data = (determined w xs p e).encrypted ∙ ap data_in c ∙ sym (determined v ys q f).encrypted
 

@@ -13,8 +13,7 @@ use lib.ListN.{length, get_or, take, drop, length-append}
 use lib.Seq.{get_or-append_seam, get_or-append-add, drop-append-add, take-append_seam, take_all}
 use Rattle.octets.specs.Bytes.{Bytes}
 use Rattle.std.specs.Prelude.{if◌then◌else◌}
-use Rattle.field_ber_length.specs.Length.{length_field, read_length}
-use Rattle.field_ber_length.specs.declared.LengthRead.TheVariants.{Length}
+use Rattle.field_ber_length.specs.Length.{found, length_field, read_length}
 use Rattle.field_ber_length.proofs.LengthForms.{read_written, written_shortest}
 use Rattle.field_write.specs.Objects.{object, encrypted_data, le_object, status_word, mac_object, command_objects, response_objects, command_field, response_field}
 use Rattle.field_expected.specs.Wanted.{may, lacks, tag_of, need_of, rank, allowed, suits}
@@ -28,8 +27,7 @@ use Rattle.field_expected.specs.declared.Second.TheVariants.{Le, Status}
 use Rattle.field_expected.specs.declared.Wanted.{Wanted}
 use Rattle.field_read.specs.declared.Objects.{Objects}
 use Rattle.field_object.specs.declared.DataObject.{DataObject}
-use Rattle.field_object.specs.declared.ObjectRead.TheVariants.{Object}
-use Rattle.field_read.specs.declared.FieldRead.TheVariants.{Read}
+use Rattle.std.specs.Prelude.{Ok}
 use Rattle.field_object.proofs.ObjectCases.{whole_object}
 use Rattle.field_read.proofs.Walk.{walk_end, walk_object}
 use Rattle.field_write.proofs.FieldLengths.{mac_bytes, no_data}
@@ -61,7 +59,7 @@ module _ (front : Bytes) (tag : ℕ) (value back : Bytes) (short : length value 
   unfolding object
   tag_there = get_or-append_seam front tag ((length_field (length value) ++ value) ++ back) 0
 
-  length_there : read_length whole (length front + 1) ≡ Length n size
+  length_there : read_length whole (length front + 1) ≡ found n size
   length_there =
       ap₂ read_length from_length (sym (length-append front (tag ∷ [])))
       ∙ read_written (front ++ tag ∷ []) (value ++ back) (length value) short
@@ -91,12 +89,12 @@ module _ (front : Bytes) (tag : ℕ) (value back : Bytes) (short : length value 
   written = record { tag = tag; start = length front; value = length front + 1 + size; len = n; next = length front + 1 + size + n }
 
   read_object_lem : (w : Wanted) (r : ℕ) → allowed w r tag ≡ true → right_size w tag n ≡ true → right_value w tag whole (length front + 1 + size) ≡ true
-      → read_object w r whole (length front) ≡ Object written
+      → read_object w r whole (length front) ≡ Ok written
   read_object_lem w r ok fit right =
       whole_object w r whole (length front) (ap (allowed w r) tag_there ∙ ok) n size length_there (written_shortest (length value))
       (ap (λ (t : ℕ). right_size w t n) tag_there ∙ fit) (omega (arith, whole_length))
       (ap (λ (t : ℕ). right_value w t whole (length front + 1 + size)) tag_there ∙ right)
-      ∙ ap (λ (t : ℕ). Object (record { tag = t; start = length front; value = length front + 1 + size; len = n; next = length front + 1 + size + n })) tag_there
+      ∙ ap (λ (t : ℕ). Ok (record { tag = t; start = length front; value = length front + 1 + size; len = n; next = length front + 1 + size + n })) tag_there
 
 -- ---- one object after another
 
@@ -304,7 +302,7 @@ module _ (w : Wanted) (c : Bytes) (there : Bool) (bytes mac : Bytes) (s : Suits 
   field_whole = refl
 
   -- at the end nothing lacks
-  end : (o : Objects) → o.second ≡ there → o.ciphertext_len ≡ length c → (n : ℕ) → ended w o 3 n ≡ Read o
+  end : (o : Objects) → o.second ≡ there → o.ciphertext_len ≡ length c → (n : ℕ) → ended w o 3 n ≡ Ok o
   unfolding ended
   end o e l n =
       let a : lacks w.«data» (ltb 0 o.ciphertext_len) ≡ false =

@@ -24,7 +24,7 @@ use Rattle.field_expected.specs.declared.Second.{Second}
 use Rattle.field_expected.specs.declared.Second.TheVariants.{Le, Status}
 use Rattle.field_expected.specs.declared.Wanted.{Wanted}
 use Rattle.field_read.specs.declared.Objects.{Objects}
-use Rattle.field_read.specs.declared.FieldRead.TheVariants.{Read}
+use Rattle.std.specs.Prelude.{Ok}
 use Rattle.field_laws.proofs.Acceptance.{Part, Optional}
 use Rattle.field_laws.proofs.Determined.{next_of, second_size, second_value, status_value, parts, cut, second_there, status_there, data_start_of, data_length_of, data_noted, optional_behind}
 
@@ -135,7 +135,7 @@ module _ {w : Wanted} {xs : Bytes} {a b : ℕ} {o o' : Objects} (part : Part w x
 
 -- ---- the theorem
 
-module _ (w : Wanted) (xs : Bytes) (p : Objects) (e : read_field w xs ≡ Read p) (bytes : IsBytes xs) where
+module _ (w : Wanted) (xs : Bytes) (p : Objects) (e : read_field w xs ≡ Ok p) (bytes : IsBytes xs) where
   abbrev a : ℕ
   a = (parts w xs p e).a
 

@@ -1,24 +1,23 @@
 -- What the bytes before '8E' say, whatever a field has behind them.
-use Rattle.std.specs.Prelude.{◌≡◌, Bool, [], ℕ, ◌+◌, ◌-◌, eqb, ltb, length, get_or, take, drop}
+use Rattle.std.specs.Prelude.{◌≡◌, Bool, [], ℕ, ◌+◌, ◌-◌, eqb, ltb, length, get_or, take, drop, Option, Some, None}
 use Rattle.octets.specs.Bytes.{Bytes}
 use Rattle.std.specs.Prelude.{if◌then◌else◌}
 use Rattle.field_expected.specs.Wanted.{tag87}
 use Rattle.field_ber_length.specs.Length.{read_length}
-use Rattle.field_ber_length.specs.declared.LengthRead.{LengthRead}
-use Rattle.field_ber_length.specs.declared.LengthRead.TheVariants.{Length, BadForm}
+use Rattle.field_ber_length.specs.declared.LengthField.{LengthField}
 use Rattle.field_read.specs.Field.{ciphertext_of, covered_of}
 use Rattle.field_expected.specs.declared.Second.TheVariants.{Status}
 use Rattle.field_expected.specs.declared.Wanted.{Wanted}
 use Rattle.field_read.specs.declared.Objects.{Objects}
 
 -- the encrypted data of an '87' whose length was read: behind tag, length field and indicator byte
-unfoldable pub data_behind : Bytes → LengthRead → Bytes
-data_behind xs (Length n size) = take (n - 1) (drop (1 + size + 1) xs)
-data_behind xs BadForm = []
+unfoldable pub data_behind : Bytes → Option LengthField → Bytes
+data_behind xs (Some field) = take (field.length - 1) (drop (1 + field.size + 1) xs)
+data_behind xs None = []
 
-unfoldable pub end_behind : LengthRead → ℕ
-end_behind (Length n size) = 1 + size + n
-end_behind BadForm = 0
+unfoldable pub end_behind : Option LengthField → ℕ
+end_behind (Some field) = 1 + field.size + field.length
+end_behind None = 0
 
 -- the encrypted data, if the first object is '87', and where that object ends
 unfoldable pub data_in : Bytes → Bytes

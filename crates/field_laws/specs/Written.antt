@@ -1,12 +1,11 @@
 -- A written field and its reading: what the reader must want, and what it then gives.
-use Rattle.std.specs.Prelude.{◌≡◌, Bool, true, ℕ, ◌+◌, ◌%◌, ◌<◌, ◌≤◌, ltb, length}
+use Rattle.std.specs.Prelude.{◌≡◌, Bool, true, ℕ, ◌+◌, ◌%◌, ◌<◌, ◌≤◌, ltb, length, Ok}
 use Rattle.octets.specs.Bytes.{Bytes}
 use Rattle.field_expected.specs.Wanted.{tag87, need_of, suits}
 use Rattle.field_object.specs.Values.{right_size}
 use Rattle.field_read.specs.Field.{read_field, ciphertext_of, covered_of, mac_of}
 use Rattle.field_expected.specs.declared.Wanted.{Wanted}
 use Rattle.field_read.specs.declared.Objects.{Objects}
-use Rattle.field_read.specs.declared.FieldRead.TheVariants.{Read}
 
 -- encrypted data: nothing, or whole blocks up to a limit
 abbrev pub WholeBlocks : ℕ → Bytes → Type 0
@@ -22,7 +21,7 @@ pub record Suits (w : Wanted) (ciphertext : Bytes) (there : Bool) : Type 0 where
 -- the field is accepted, and its objects are these
 pub record ReadsBack (w : Wanted) (field ciphertext : Bytes) (there : Bool) (mac covered : Bytes) : Type 0 where
   pub objects : Objects
-  pub accepted : read_field w field ≡ Read objects
+  pub accepted : read_field w field ≡ Ok objects
   pub size : objects.ciphertext_len ≡ length ciphertext
   pub encrypted : ciphertext_of field objects ≡ ciphertext
   pub second : objects.second ≡ there

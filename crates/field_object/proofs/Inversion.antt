@@ -9,9 +9,8 @@ use lib.ListN.{length, get_or}
 use Rattle.octets.proofs.Tests.{both}
 use Rattle.octets.specs.Bytes.{Bytes}
 use Rattle.std.specs.Prelude.{if◌then◌else◌}
-use Rattle.field_ber_length.specs.Length.{read_length, is_shortest}
-use Rattle.field_ber_length.specs.declared.LengthRead.{LengthRead}
-use Rattle.field_ber_length.specs.declared.LengthRead.TheVariants.{Length, BadForm}
+use Rattle.field_ber_length.specs.Length.{found, read_length, is_shortest}
+use Rattle.field_ber_length.specs.declared.LengthField.{LengthField}
 use Rattle.field_expected.specs.Wanted.{tag_of, rank, may, need_of, allowed}
 use Rattle.field_object.specs.Values.{size_of, right_size, right_value}
 use Rattle.field_object.specs.Object.{read_object}
@@ -20,8 +19,7 @@ use Rattle.field_expected.specs.declared.Second.TheVariants.{Le, Status}
 use Rattle.field_expected.specs.declared.Wanted.{Wanted}
 use Rattle.field_object.specs.declared.Breach.{Breach}
 use Rattle.field_object.specs.declared.DataObject.{DataObject}
-use Rattle.field_object.specs.declared.ObjectRead.{ObjectRead}
-use Rattle.field_object.specs.declared.ObjectRead.TheVariants.{Object, Malformed}
+use Rattle.std.specs.Prelude.{Option, Some, None, Result, Ok, Err}
 use Rattle.field_object.proofs.ObjectCases.{bad_tag, bad_form, long_form, bad_size, past_end, bad_value, whole_object}
 
 -- the object d stands at index at, after one at place r
@@ -29,51 +27,52 @@ pub record Stands (w : Wanted) (r : ℕ) (xs : Bytes) (at : ℕ) (d : DataObject
   pub n : ℕ
   pub size : ℕ
   pub ok : allowed w r (get_or xs at 0) ≡ true
-  pub read : read_length xs (at + 1) ≡ Length n size
+  pub read : read_length xs (at + 1) ≡ found n size
   pub form : is_shortest n size ≡ true
   pub fit : right_size w (get_or xs at 0) n ≡ true
   pub inside : at + 1 + size + n ≤ length xs
   pub right : right_value w (get_or xs at 0) xs (at + 1 + size) ≡ true
   pub same : d ≡ record { tag = get_or xs at 0; start = at; value = at + 1 + size; len = n; next = at + 1 + size + n }
 
-no_object : {o : ObjectRead} {d : DataObject} {b : Breach} {P : Type 0} → o ≡ Object d → o ≡ Malformed b → P
+no_object : {o : Result DataObject Breach} {d : DataObject} {b : Breach} {P : Type 0} → o ≡ Ok d → o ≡ Err b → P
 no_object e f = let z : ◌≡◌ {A = ℕ} 0 1 = cc in let n : ⊥ = omega arith in absurd n
 
-module _ (w : Wanted) (r : ℕ) (xs : Bytes) (at : ℕ) (d : DataObject) (e : read_object w r xs at ≡ Object d) where
+module _ (w : Wanted) (r : ℕ) (xs : Bytes) (at : ℕ) (d : DataObject) (e : read_object w r xs at ≡ Ok d) where
   pub stands : Stands w r xs at d
   stands = by_tag (allowed w r (get_or xs at 0)) refl
     where
       tag : ℕ
       tag = get_or xs at 0
 
-      by_value : (n size : ℕ) → allowed w r (get_or xs at 0) ≡ true → read_length xs (at + 1) ≡ Length n size → is_shortest n size ≡ true
+      by_value : (n size : ℕ) → allowed w r (get_or xs at 0) ≡ true → read_length xs (at + 1) ≡ found n size → is_shortest n size ≡ true
           → right_size w (get_or xs at 0) n ≡ true → at + 1 + size + n ≤ length xs
           → (t : Bool) → right_value w (get_or xs at 0) xs (at + 1 + size) ≡ t → Stands w r xs at d
       by_value n size ok l form fit h false f = no_object e (bad_value w r xs at ok n size l form fit h f)
       by_value n size ok l form fit h true f =
-          let g : read_object w r xs at ≡ Object (record { tag = get_or xs at 0; start = at; value = at + 1 + size; len = n; next = at + 1 + size + n }) =
+          let g : read_object w r xs at ≡ Ok (record { tag = get_or xs at 0; start = at; value = at + 1 + size; len = n; next = at + 1 + size + n }) =
           whole_object w r xs at ok n size l form fit h f in
           record { n = n; size = size; ok = ok; read = l; form = form; fit = fit; inside = h; right = f; same = cc }
 
-      by_room : (n size : ℕ) → allowed w r (get_or xs at 0) ≡ true → read_length xs (at + 1) ≡ Length n size → is_shortest n size ≡ true
+      by_room : (n size : ℕ) → allowed w r (get_or xs at 0) ≡ true → read_length xs (at + 1) ≡ found n size → is_shortest n size ≡ true
           → right_size w (get_or xs at 0) n ≡ true → (t : Bool) → leb (at + 1 + size + n) (length xs) ≡ t → Stands w r xs at d
       by_room n size ok l form fit false f = no_object e (past_end w r xs at ok n size l form fit (leb-false (at + 1 + size + n) (length xs) f))
       by_room n size ok l form fit true f =
           by_value n size ok l form fit (leb-true (at + 1 + size + n) (length xs) f) (right_value w (get_or xs at 0) xs (at + 1 + size)) refl
 
-      by_size : (n size : ℕ) → allowed w r (get_or xs at 0) ≡ true → read_length xs (at + 1) ≡ Length n size → is_shortest n size ≡ true
+      by_size : (n size : ℕ) → allowed w r (get_or xs at 0) ≡ true → read_length xs (at + 1) ≡ found n size → is_shortest n size ≡ true
           → (t : Bool) → right_size w (get_or xs at 0) n ≡ t → Stands w r xs at d
       by_size n size ok l form false f = no_object e (bad_size w r xs at ok n size l form f)
       by_size n size ok l form true f = by_room n size ok l form f (leb (at + 1 + size + n) (length xs)) refl
 
-      by_form : (n size : ℕ) → allowed w r (get_or xs at 0) ≡ true → read_length xs (at + 1) ≡ Length n size
+      by_form : (n size : ℕ) → allowed w r (get_or xs at 0) ≡ true → read_length xs (at + 1) ≡ found n size
           → (t : Bool) → is_shortest n size ≡ t → Stands w r xs at d
       by_form n size ok l false f = no_object e (long_form w r xs at ok n size l f)
       by_form n size ok l true f = by_size n size ok l f (right_size w (get_or xs at 0) n) refl
 
-      by_length : allowed w r (get_or xs at 0) ≡ true → (l : LengthRead) → read_length xs (at + 1) ≡ l → Stands w r xs at d
-      by_length ok BadForm f = no_object e (bad_form w r xs at ok f)
-      by_length ok (Length n size) f = by_form n size ok f (is_shortest n size) refl
+      by_length : allowed w r (get_or xs at 0) ≡ true → (l : Option LengthField) → read_length xs (at + 1) ≡ l → Stands w r xs at d
+      by_length ok None f = no_object e (bad_form w r xs at ok f)
+      by_length ok (Some field) f =
+          by_form field.length field.size ok f (is_shortest field.length field.size) refl
 
       by_tag : (t : Bool) → allowed w r (get_or xs at 0) ≡ t → Stands w r xs at d
       by_tag false f = no_object e (bad_tag w r xs at f)

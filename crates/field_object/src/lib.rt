@@ -4,11 +4,10 @@
 mod rules;
 
 ghost use Rattle.std.specs.Prelude.{◌≡◌, ◌<◌, length};
-ghost use Rattle.field_object.specs.Object.{read_object};
-ghost use Rattle.field_object.specs.Step.{index_after, read_step};
+ghost use Rattle.field_object.specs.Object.{breach, read_object};
 
-use field_ber_length::{LengthRead, is_shortest, read_length};
-use field_expected::{Wanted, allowed};
+use field_ber_length::read_length;
+use field_expected::Wanted;
 use rules::{right_size, right_value};
 
 // The rule that a field breaks.
@@ -29,6 +28,14 @@ pub struct Breach {
     pub offset: usize,
 }
 
+impl Breach {
+    fn new(rule: Rule, tag: u8, offset: usize) -> Breach
+        ensures { result ≡ breach rule tag offset }
+    {
+        Breach { rule, tag, offset }
+    }
+}
+
 // A data object of a field: where it starts, where its value stands, and where the next one starts.
 #[derive(Clone, Copy)]
 pub struct DataObject {
@@ -39,76 +46,40 @@ pub struct DataObject {
     pub next: usize,
 }
 
-#[derive(Clone, Copy)]
-pub enum ObjectRead {
-    Object(DataObject),
-    Malformed(Breach),
-}
-
 // The object at index `at`, after one at place `after` of the side's list.
-fn read_object(wanted: Wanted, after: usize, bytes: &[u8], at: usize) -> ObjectRead
+pub fn read_object(
+    wanted: Wanted,
+    after: usize,
+    bytes: &[u8],
+    at: usize,
+) -> Result<DataObject, Breach>
     requires { at < length bytes.now }
     ensures { result ≡ read_object wanted after bytes.now at }
 {
     let tag = bytes[at];
     let from = at + 1;
-    if !allowed(wanted, after, tag) {
-        return malformed(Rule::Tag, tag, at);
+    if !wanted.allowed(after, tag) {
+        return Err(Breach::new(Rule::Tag, tag, at));
     }
-    let LengthRead::Length(n, size) = read_length(bytes, from) else {
-        return malformed(Rule::LengthForm, tag, from);
-    };
-    if !is_shortest(n, size) {
-        return malformed(Rule::LengthForm, tag, from);
+    let field = read_length(bytes, from).ok_or(Breach::new(Rule::LengthForm, tag, from))?;
+    if !field.is_shortest() {
+        return Err(Breach::new(Rule::LengthForm, tag, from));
     }
-    if !right_size(wanted, tag, n) {
-        return malformed(Rule::LengthSize, tag, from);
+    if !right_size(wanted, tag, field.length) {
+        return Err(Breach::new(Rule::LengthSize, tag, from));
     }
-    let value = from + size;
-    if bytes.len() - value < n {
-        return malformed(Rule::BytesLeft, tag, from);
+    let value = from + field.size;
+    if bytes.len() - value < field.length {
+        return Err(Breach::new(Rule::BytesLeft, tag, from));
     }
     if !right_value(wanted, tag, bytes, value) {
-        return malformed(Rule::Value, tag, value);
+        return Err(Breach::new(Rule::Value, tag, value));
     }
-    ObjectRead::Object(DataObject {
+    Ok(DataObject {
         tag,
         start: at,
         value,
-        len: n,
-        next: value + n,
+        len: field.length,
+        next: value + field.length,
     })
-}
-
-fn malformed(rule: Rule, tag: u8, offset: usize) -> ObjectRead
-    ensures { result ≡ ObjectRead.Malformed (record { rule = rule; tag = tag; offset = offset }) }
-{
-    ObjectRead::Malformed(Breach { rule, tag, offset })
-}
-
-// What a reader read, and its index then.
-#[derive(Clone, Copy)]
-pub struct Step {
-    pub read: ObjectRead,
-    pub at: usize,
-}
-
-// Behind an object; a breach is not passed.
-fn index_after(read: ObjectRead, at: usize) -> usize
-    ensures { result ≡ index_after read at }
-{
-    match read {
-        ObjectRead::Object(object) => object.next,
-        ObjectRead::Malformed(_) => at,
-    }
-}
-
-// The work of a reader at index `at`, on the field itself.
-pub fn read_step(wanted: Wanted, after: usize, field: &[u8], at: usize) -> Step
-    requires { at < length field.now }
-    ensures { result ≡ read_step wanted after field.now at }
-{
-    let read = read_object(wanted, after, field, at);
-    let next = index_after(read, at);
-    Step { read, at: next }
 }

@@ -17,30 +17,17 @@ fn second_size(second: Second) -> usize
 pub fn right_size(wanted: Wanted, tag: u8, n: usize) -> bool
     ensures { result ≡ right_size wanted tag n }
 {
-    let limit = wanted.limit;
-    let second = wanted.second;
-    if tag == TAG_87 {
-        if n < 17 {
-            return false;
-        }
-        if (n - 1) % 16 != 0 {
-            return false;
-        }
-        return n - 1 <= limit;
+    match tag {
+        TAG_87 => 17 <= n && (n - 1) % 16 == 0 && n - 1 <= wanted.limit,
+        TAG_8E => n == 8,
+        _ => n == second_size(wanted.second),
     }
-    if tag == TAG_8E {
-        return n == 8;
-    }
-    n == second_size(second)
 }
 
 fn byte_at(bytes: &[u8], at: usize) -> u8
     ensures { result ≡ get_or bytes.now at 0 }
 {
-    if at < bytes.len() {
-        return bytes[at];
-    }
-    0
+    bytes.get(at).copied().unwrap_or(0)
 }
 
 fn byte_after(bytes: &[u8], at: usize) -> u8
@@ -57,12 +44,7 @@ fn right_second(second: Second, bytes: &[u8], at: usize) -> bool
 {
     match second {
         Second::Le(_) => byte_at(bytes, at) == 0,
-        Second::Status(sw1, sw2) => {
-            if byte_at(bytes, at) != sw1 {
-                return false;
-            }
-            byte_after(bytes, at) == sw2
-        }
+        Second::Status(sw1, sw2) => byte_at(bytes, at) == sw1 && byte_after(bytes, at) == sw2,
     }
 }
 
@@ -70,12 +52,9 @@ fn right_second(second: Second, bytes: &[u8], at: usize) -> bool
 pub fn right_value(wanted: Wanted, tag: u8, bytes: &[u8], at: usize) -> bool
     ensures { result ≡ right_value wanted tag bytes.now at }
 {
-    let second = wanted.second;
-    if tag == TAG_87 {
-        return byte_at(bytes, at) == 1;
+    match tag {
+        TAG_87 => byte_at(bytes, at) == 1,
+        TAG_8E => true,
+        _ => right_second(wanted.second, bytes, at),
     }
-    if tag == TAG_8E {
-        return true;
-    }
-    right_second(second, bytes, at)
 }

@@ -12,7 +12,7 @@ use lib.Seq.{get_or-append-add, get_or-append_seam}
 use Rattle.octets.specs.Bytes.{Bytes, zeros}
 use Rattle.std.specs.Prelude.{if◌then◌else◌}
 use Rattle.field_padding.specs.Padding.{padding, pad, marked, mark_before, unpad}
-use Rattle.field_padding.specs.declared.Unpadded.TheVariants.{Data, BadPadding}
+use Rattle.std.specs.Prelude.{Some, None}
 use Rattle.field_padding.proofs.Lengths.{length_pad}
 
 pub back_over_zero : (k : ℕ) (xs : Bytes) (n : ℕ) → 0 < k → get_or xs (n - 1) 0 ≡ 0 → mark_before k xs n ≡ mark_before (k - 1) xs (n - 1)
@@ -27,36 +27,36 @@ unfolding mark_before
 back_to_mark zero xs n h e = let z : ⊥ = omega arith in absurd z
 back_to_mark (suc k) xs n h e = rw (ne_eqb (get_or xs (n - 1) 0) 0 e)
 
-pub back_to_none : (k : ℕ) (xs : Bytes) (n : ℕ) → k ≡ 0 → mark_before k xs n ≡ BadPadding
+pub back_to_none : (k : ℕ) (xs : Bytes) (n : ℕ) → k ≡ 0 → mark_before k xs n ≡ None
 unfolding mark_before
 back_to_none zero xs n e = refl
 back_to_none (suc k) xs n e = let z : ⊥ = omega arith in absurd z
 
 -- ---- the data ends before the padding
 
-pub no_data : {m : ℕ} {P : Type 0} → BadPadding ≡ Data m → P
+pub no_data : {m : ℕ} {P : Type 0} → None ≡ Some m → P
 no_data e = let z : ◌≡◌ {A = ℕ} 0 1 = cc in let o : ⊥ = omega arith in absurd o
 
-mark_at : (b n m : ℕ) → marked b n ≡ Data m → m ≡ n
+mark_at : (b n m : ℕ) → marked b n ≡ Some m → m ≡ n
 unfolding marked
 mark_at b n m e = go (eqb b 0x80) (eqb n 0) e
   where
-    go : (p q : Bool) → (if p then (if q then BadPadding else Data n) else BadPadding) ≡ Data m → m ≡ n
+    go : (p q : Bool) → (if p then (if q then None else Some n) else None) ≡ Some m → m ≡ n
     go true true e = no_data e
     go true false e = cc
     go false q e = no_data e
 
-mark_before_lem : (k : ℕ) (xs : Bytes) (n m : ℕ) → k ≤ n → mark_before k xs n ≡ Data m → m < n
+mark_before_lem : (k : ℕ) (xs : Bytes) (n m : ℕ) → k ≤ n → mark_before k xs n ≡ Some m → m < n
 unfolding mark_before
 mark_before_lem zero xs n m h e = no_data e
 mark_before_lem (suc k) xs n m h e = go (eqb (get_or xs (n - 1) 0) 0) e (mark_before_lem k xs (n - 1) m (omega arith))
   where
-    go : (z : Bool) → (if z then mark_before k xs (n - 1) else marked (get_or xs (n - 1) 0) (n - 1)) ≡ Data m
-        → (mark_before k xs (n - 1) ≡ Data m → m < n - 1) → m < n
+    go : (z : Bool) → (if z then mark_before k xs (n - 1) else marked (get_or xs (n - 1) 0) (n - 1)) ≡ Some m
+        → (mark_before k xs (n - 1) ≡ Some m → m < n - 1) → m < n
     go true e f = omega (arith, f e)
     go false e f = omega (arith, mark_at (get_or xs (n - 1) 0) (n - 1) m e)
 
-pub data_short : (xs : Bytes) (m : ℕ) → unpad xs ≡ Data m → m < length xs
+pub data_short : (xs : Bytes) (m : ℕ) → unpad xs ≡ Some m → m < length xs
 unfolding unpad
 data_short xs m e = mark_before_lem (min 16 (length xs)) xs (length xs) m (omega arith) e
 
@@ -89,7 +89,7 @@ module _ (ys : Bytes) (z : ℕ) where
       ∙ back m j (omega arith)
 
 -- the data's length is found again, unless there is no data
-pub unpad_pad : (xs : Bytes) → 0 < length xs → unpad (pad xs) ≡ Data (length xs)
+pub unpad_pad : (xs : Bytes) → 0 < length xs → unpad (pad xs) ≡ Some (length xs)
 unfolding unpad pad padding whole marked
 unpad_pad xs h =
     let z : ℕ = 15 - length xs % 16 in

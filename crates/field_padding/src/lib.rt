@@ -1,18 +1,11 @@
 // The padding of command and response data (SP 800-73-4 Part 2, 4.2.2): written, and the data's length found again.
 #![tactic(auto)]
 
-ghost use Rattle.std.specs.Prelude.{◌≡◌, ◌+◌, ◌<◌, ◌≤◌, min, length};
+ghost use Rattle.std.specs.Prelude.{◌≡◌, ◌+◌, ◌<◌, ◌≤◌, length};
 ghost use Rattle.octets.specs.Write.{Wrote};
 ghost use Rattle.field_padding.specs.Padding.{padding, padded_length, marked, unpad};
 
 use octets::{put_byte, put_zeros};
-
-#[derive(Clone, Copy)]
-pub enum Unpadded {
-    // The length of the data.
-    Data(usize),
-    BadPadding,
-}
 
 // The length of p bytes of data with their padding.
 pub fn padded_length(p: usize) -> usize
@@ -33,40 +26,21 @@ pub fn put_padding(out: &mut [u8], at: usize, p: usize) -> usize
 }
 
 // The last byte that isn't zero, at index n, must be '80', with data before it.
-fn marked(b: u8, n: usize) -> Unpadded
+fn marked(b: u8, n: usize) -> Option<usize>
     ensures { result ≡ marked b n }
 {
-    if b != 0x80 {
-        return Unpadded::BadPadding;
-    }
-    if n == 0 {
-        return Unpadded::BadPadding;
-    }
-    Unpadded::Data(n)
-}
-
-fn at_most_16(n: usize) -> usize
-    ensures { result ≡ min 16 n }
-{
-    if n < 16 {
-        return n;
-    }
-    16
+    if b == 0x80 && n != 0 { Some(n) } else { None }
 }
 
 // Where the data of a padded string ends. Nothing before the last 16 bytes is looked at.
-pub fn unpad(bytes: &[u8]) -> Unpadded
+pub fn unpad(bytes: &[u8]) -> Option<usize>
     ensures { result ≡ unpad bytes.now }
 {
-    let mut left = at_most_16(bytes.len());
-    let mut n = bytes.len();
-    while 0 < left {
-        n -= 1;
-        left -= 1;
-        let b = bytes[n];
-        if b != 0 {
-            return marked(b, n);
+    let start = bytes.len().saturating_sub(16);
+    for n in (start..bytes.len()).rev() {
+        if bytes[n] != 0 {
+            return marked(bytes[n], n);
         }
     }
-    Unpadded::BadPadding
+    None
 }

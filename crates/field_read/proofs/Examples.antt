@@ -12,7 +12,8 @@ use Rattle.field_expected.specs.declared.Need.TheVariants.{Must, May}
 use Rattle.field_expected.specs.declared.Second.TheVariants.{Le, Status}
 use Rattle.field_expected.specs.declared.Wanted.{Wanted}
 use Rattle.field_object.specs.declared.Rule.TheVariants.{Tag, Value}
-use Rattle.field_read.specs.declared.FieldRead.TheVariants.{Read, Malformed, Missing}
+use Rattle.field_read.specs.declared.FieldError.TheVariants.{Malformed, Missing}
+use Rattle.std.specs.Prelude.{Ok, Err}
 
 -- GET DATA ('CB') must have data and Le
 get_data : Wanted
@@ -32,29 +33,29 @@ mac : Bytes
 mac = 0x8E ∷ 0x08 ∷ zeros 8
 
 whole : read_field get_data (data16 ++ le ++ mac)
-    ≡ Read (record { ciphertext = 3; ciphertext_len = 16; second = true; mac_start = 22; mac = 24 })
+    ≡ Ok (record { ciphertext = 3; ciphertext_len = 16; second = true; mac_start = 22; mac = 24 })
 unfolding read_field walk on_object read_object with_length require◌else◌⨾◌ allowed rank right_size right_value right_second noted ended read_length is_shortest length_field get_data data16 le mac
 whole = refl
 
 -- nothing may stand behind '8E'
-byte_after_mac : read_field get_data (data16 ++ le ++ mac ++ 0x00 ∷ []) ≡ Malformed (breach Tag 0x00 32)
+byte_after_mac : read_field get_data (data16 ++ le ++ mac ++ 0x00 ∷ []) ≡ Err (Malformed (breach Tag 0x00 32))
 unfolding read_field walk on_object read_object with_length require◌else◌⨾◌ allowed rank right_size right_value right_second noted ended read_length is_shortest length_field get_data data16 le mac
 byte_after_mac = refl
 
 -- a lacking '97' is 8 only where the end is reached
-le_missing : read_field get_data (data16 ++ mac) ≡ Missing 0x97 29
+le_missing : read_field get_data (data16 ++ mac) ≡ Err (Missing 0x97 29)
 unfolding read_field walk on_object read_object with_length require◌else◌⨾◌ allowed rank right_size right_value right_second noted ended read_length is_shortest length_field get_data data16 mac
 le_missing = refl
 
-le_missing_and_more : read_field get_data (data16 ++ mac ++ 0x00 ∷ []) ≡ Malformed (breach Tag 0x00 29)
+le_missing_and_more : read_field get_data (data16 ++ mac ++ 0x00 ∷ []) ≡ Err (Malformed (breach Tag 0x00 29))
 unfolding read_field walk on_object read_object with_length require◌else◌⨾◌ allowed rank right_size right_value right_second noted ended read_length is_shortest length_field get_data data16 mac
 le_missing_and_more = refl
 
-empty_field : read_field get_data [] ≡ Missing 0x87 0
+empty_field : read_field get_data [] ≡ Err (Missing 0x87 0)
 unfolding read_field walk noted ended get_data
 empty_field = refl
 
 -- a '99' that differs is 7 even where '8E' lacks
-other_status : read_field response (0x99 ∷ 0x02 ∷ 0x6A ∷ 0x82 ∷ []) ≡ Malformed (breach Value 0x99 2)
+other_status : read_field response (0x99 ∷ 0x02 ∷ 0x6A ∷ 0x82 ∷ []) ≡ Err (Malformed (breach Value 0x99 2))
 unfolding read_field walk on_object read_object with_length require◌else◌⨾◌ allowed rank right_size right_value right_second noted ended read_length is_shortest length_field response
 other_status = refl

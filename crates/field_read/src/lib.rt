@@ -4,15 +4,16 @@
 mod reader;
 
 ghost use Rattle.std.specs.Prelude.{◌≡◌, ◌+◌, ◌≤◌};
-ghost use Rattle.field_read.specs.Field.{noted, refused, ended, read_field};
+ghost use Rattle.field_read.specs.Field.{noted, ended, read_field};
+ghost use Rattle.field_read.specs.declared.FieldError.TheVariants.{Malformed};
 ghost use Rattle.field_expected.specs.Wanted.{lacks};
 
-use field_expected::{Need, TAG_8E, TAG_87, Wanted, rank, second_need, second_tag};
-use field_object::{Breach, DataObject, ObjectRead, Rule};
-use reader::read_at;
+use field_expected::{Need, TAG_8E, TAG_87, Wanted};
+use field_object::{Breach, DataObject};
+use reader::Reader;
 
 // What stands in a field. '87', if it is there, stands first.
-#[derive(Clone, Copy)]
+#[derive(Clone, Copy, Default)]
 pub struct Objects {
     // The encrypted data, behind the padding-content indicator byte; no bytes where there is no '87'.
     pub ciphertext: usize,
@@ -24,39 +25,35 @@ pub struct Objects {
     pub mac: usize,
 }
 
+// Why a field is refused.
 #[derive(Clone, Copy)]
-pub enum FieldRead {
-    Read(Objects),
+pub enum FieldError {
     // The first breach.
     Malformed(Breach),
     // No breach, but an object is lacking: the first one in the side's list, and the field's end.
     Missing(u8, usize),
 }
 
+impl From<Breach> for FieldError {
+    ghost from_gives = { λ breach error. error ≡ Malformed breach };
+
+    fn from(breach: Breach) -> FieldError {
+        FieldError::Malformed(breach)
+    }
+}
+
 // The objects of a field, or the first breach, or the first object that is lacking.
-pub fn read_field(wanted: Wanted, field: &[u8]) -> FieldRead
+pub fn read_field(wanted: Wanted, field: &[u8]) -> Result<Objects, FieldError>
     ensures { result ≡ read_field wanted field.now }
 {
-    let second = wanted.second;
-    let mut objects = Objects {
-        ciphertext: 0,
-        ciphertext_len: 0,
-        second: false,
-        mac_start: 0,
-        mac: 0,
-    };
-    let mut place: usize = 0;
-    let mut at: usize = 0;
-    while at < field.len() {
-        let step = read_at(wanted, place, field, at);
-        let read = step.read;
-        let ObjectRead::Object(object) = read else {
-            return refused(read);
-        };
-        let more = noted(objects, object);
-        objects = more;
-        place = rank(second, object.tag);
-        at = step.at;
+    let mut objects = Objects::default();
+    let mut place = 0;
+    let mut reader = Reader::new(field, 0);
+    // The reader is no Iterator: what may stand next depends on the place of the object before.
+    while reader.has_more() {
+        let object = reader.next(wanted, place)?;
+        objects = noted(objects, object);
+        place = wanted.second.rank(object.tag);
     }
     ended(wanted, objects, place, field.len())
 }
@@ -66,71 +63,42 @@ fn noted(objects: Objects, object: DataObject) -> Objects
     requires { (1 ≤ object.len) × (object.value + object.len ≡ object.next) }
     ensures { result ≡ noted objects object }
 {
-    if object.tag == TAG_87 {
-        return Objects {
+    match object.tag {
+        TAG_87 => Objects {
             ciphertext: object.value + 1,
             ciphertext_len: object.len - 1,
-            second: objects.second,
-            mac_start: objects.mac_start,
-            mac: objects.mac,
-        };
-    }
-    if object.tag == TAG_8E {
-        return Objects {
-            ciphertext: objects.ciphertext,
-            ciphertext_len: objects.ciphertext_len,
-            second: objects.second,
+            ..objects
+        },
+        TAG_8E => Objects {
             mac_start: object.start,
             mac: object.value,
-        };
-    }
-    Objects {
-        ciphertext: objects.ciphertext,
-        ciphertext_len: objects.ciphertext_len,
-        second: true,
-        mac_start: objects.mac_start,
-        mac: objects.mac,
-    }
-}
-
-// What a reading that gave no object, or an object that was not wanted, ends the walk with.
-fn refused(read: ObjectRead) -> FieldRead
-    ensures { result ≡ refused read }
-{
-    match read {
-        ObjectRead::Malformed(breach) => FieldRead::Malformed(breach),
-        ObjectRead::Object(object) => FieldRead::Malformed(Breach {
-            rule: Rule::Tag,
-            tag: object.tag,
-            offset: object.start,
-        }),
+            ..objects
+        },
+        _ => Objects {
+            second: true,
+            ..objects
+        },
     }
 }
 
 fn lacks(need: Need, there: bool) -> bool
     ensures { result ≡ lacks need there }
 {
-    match need {
-        Need::Must => !there,
-        Need::May => false,
-        Need::MustNot => false,
-    }
+    need == Need::Must && !there
 }
 
 // At the field's end, after an object at place `after`: the objects, or the first that is lacking.
-fn ended(wanted: Wanted, objects: Objects, after: usize, end: usize) -> FieldRead
+fn ended(wanted: Wanted, objects: Objects, after: usize, end: usize) -> Result<Objects, FieldError>
     ensures { result ≡ ended wanted objects after end }
 {
-    let data = wanted.data;
-    let second = wanted.second;
-    if lacks(data, 0 < objects.ciphertext_len) {
-        return FieldRead::Missing(TAG_87, end);
+    if lacks(wanted.data, 0 < objects.ciphertext_len) {
+        return Err(FieldError::Missing(TAG_87, end));
     }
-    if lacks(second_need(second), objects.second) {
-        return FieldRead::Missing(second_tag(second), end);
+    if lacks(wanted.second.need(), objects.second) {
+        return Err(FieldError::Missing(wanted.second.tag(), end));
     }
     if after < 3 {
-        return FieldRead::Missing(TAG_8E, end);
+        return Err(FieldError::Missing(TAG_8E, end));
     }
-    FieldRead::Read(objects)
+    Ok(objects)
 }

@@ -1,4 +1,5 @@
-// How long a secure messaging field is, from the length of its data and whether Le is present.
+// How long a secure messaging field is, from the length of its data and whether Le is present. The bound of that length stands in
+// each contract: a type of its own for it would be converted at every call.
 #![tactic(auto)]
 
 ghost use Rattle.std.specs.Prelude.{◌≡◌, ◌<◌};

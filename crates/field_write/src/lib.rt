@@ -27,7 +27,7 @@ fn put_encrypted_data(out: &mut [u8], at: usize, ciphertext: &[u8]) -> usize
     requires { (length ciphertext.now < 65535) × (at + length (encrypted_data ciphertext.now) ≤ length out.old) }
     ensures { Wrote out.old at (encrypted_data ciphertext.now) result out.new }
 {
-    if ciphertext.len() == 0 {
+    if ciphertext.is_empty() {
         return at;
     }
     let n = put_data_header(out, at, ciphertext.len());

@@ -1,6 +1,10 @@
 -- Commands and responses: what stands in the clear, and the data.
 use Rattle.std.specs.Prelude.{Bool, ℕ}
 use Rattle.octets.specs.Bytes.{Bytes}
+use Rattle.apdu.specs.Apdu as apdu
+use Rattle.apdu.specs.declared.Header.{Header}
+pub use Rattle.apdu.specs.declared.StatusWord.{StatusWord}
+pub use Rattle.apdu.specs.Apdu.{status}
 
 -- INS, P1, P2, and whether Le is present
 pub record CommandHeader : Type 0 where
@@ -9,15 +13,16 @@ pub record CommandHeader : Type 0 where
   pub p2 : ℕ
   pub le : Bool
 
-pub record StatusWord : Type 0 where
-  pub sw1 : ℕ
-  pub sw2 : ℕ
-
 abbrev pub header : ℕ → ℕ → ℕ → Bool → CommandHeader
 header ins p1 p2 le = record { ins = ins; p1 = p1; p2 = p2; le = le }
 
-abbrev pub status : ℕ → ℕ → StatusWord
-status sw1 sw2 = record { sw1 = sw1; sw2 = sw2 }
+-- a header, and whether Le is present
+abbrev pub command_header : Header → Bool → CommandHeader
+command_header h le = header h.ins h.p1 h.p2 le
+
+-- without Le
+abbrev pub header_of : CommandHeader → Header
+header_of h = apdu.header h.ins h.p1 h.p2
 
 pub record Message (H : Type 0) : Type 0 where
   pub header : H

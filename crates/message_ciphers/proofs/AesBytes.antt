@@ -3,7 +3,7 @@
 use mathlib.Core.Path.{◌≡◌, subst}
 use mathlib.Core.Bool.{Bool, true, false}
 use mathlib.Core.List.{[]}
-use mathlib.Core.Option.{Option, none, some}
+use Rattle.std.specs.Prelude.{Option, None, Some}
 use Prim.Native.Nat.{ℕ}
 use native.Mathlib.Omega.{arith}
 use lib.Dec.{eqb}
@@ -12,8 +12,6 @@ use Rattle.octets.specs.Bytes.{Bytes, IsBytes}
 use Rattle.std.specs.Prelude.{if◌then◌else◌}
 use Rattle.octets.proofs.ByteStrings.{bytes_nil, bytes_taken}
 use Rattle.field_padding.specs.Padding.{pad, unpad}
-use Rattle.field_padding.specs.declared.Unpadded.{Unpadded}
-use Rattle.field_padding.specs.declared.Unpadded.TheVariants.{Data, BadPadding}
 use Rattle.aes.proofs.Block.{aes_block, inv_aes_block}
 use Rattle.mode_cbc.specs.Cbc.{cbc_encrypt, cbc_decrypt}
 use Rattle.mode_cbc.proofs.GivesBytes.{cbc_encrypt_bytes, cbc_decrypt_bytes}
@@ -22,13 +20,13 @@ use Rattle.message_ciphers.specs.Aes.{size_of, ciph, inv_ciph, encrypt, data_in,
 
 -- the data, where there is some, is bytes
 Gives : Option Bytes → Type 0
-Gives a = (d : Bytes) → a ≡ some d → IsBytes d
+Gives a = (d : Bytes) → a ≡ Some d → IsBytes d
 
-gives_some : (d : Bytes) → IsBytes d → Gives (some d)
+gives_some : (d : Bytes) → IsBytes d → Gives (Some d)
 unfolding Gives
 gives_some d h e q = let p : d ≡ e = cc in subst IsBytes p h
 
-gives_none : Gives none
+gives_none : Gives None
 unfolding Gives
 gives_none d q = let z : ◌≡◌ {A = ℕ} 0 1 = cc in let o : ⊥ = omega arith in absurd o
 
@@ -53,16 +51,16 @@ module _ (k : Bytes) (key : IsBytes k) where
       go true = bytes_nil
       go false = cbc_encrypt_bytes (ciph k) ciph_bytes (ciph k n) (pad d)
 
-  data_bytes : (padded : Bytes) → IsBytes padded → (u : Unpadded) → Gives (data_in padded u)
+  data_bytes : (padded : Bytes) → IsBytes padded → (u : Option ℕ) → Gives (data_in padded u)
   unfolding data_in
-  data_bytes padded h (Data n) = gives_some (take n padded) (bytes_taken n padded h)
-  data_bytes padded h BadPadding = gives_none
+  data_bytes padded h (Some n) = gives_some (take n padded) (bytes_taken n padded h)
+  data_bytes padded h None = gives_none
 
-  pub aes_decrypt_bytes : (n c : Bytes) → IsBytes c → (d : Bytes) → aes_ciphers.decrypt k n c ≡ some d → IsBytes d
+  pub aes_decrypt_bytes : (n c : Bytes) → IsBytes c → (d : Bytes) → aes_ciphers.decrypt k n c ≡ Some d → IsBytes d
   unfolding aes_ciphers decrypt decrypt_blocks Gives
   aes_decrypt_bytes n c h = go (eqb (length c) 0)
     where
-      go : (t : Bool) → Gives (if t then some [] else decrypt_blocks k n c)
+      go : (t : Bool) → Gives (if t then Some [] else decrypt_blocks k n c)
       go true = gives_some [] bytes_nil
       go false =
           let padded = cbc_decrypt (inv_ciph k) (ciph k n) c in

@@ -2,7 +2,7 @@
 use mathlib.Core.Path.{◌≡◌, refl, sym, ap, ◌∙◌}
 use mathlib.Core.Bool.{Bool, true, false}
 use mathlib.Core.List.{[], ◌∷◌}
-use mathlib.Core.Option.{some}
+use Rattle.std.specs.Prelude.{Some}
 use Prim.Native.Nat.{◌<◌}
 use native.Mathlib.Omega.{arith}
 use borrow.Author.Tests.{ne_eqb, eqb-true, eqb-false}
@@ -51,12 +51,12 @@ module _ (k n d : Bytes) (key : IsKey k) (counter : IsCounter n) (bytes : IsByte
   some_data : (length d ≡ 0 → ⊥) → 0 < length d
   some_data f = omega (arith, f)
 
-  decrypted : decrypt k n (encrypt k n d) ≡ some d
+  decrypted : decrypt k n (encrypt k n d) ≡ Some d
   unfolding encrypt decrypt decrypt_blocks padded_length
   decrypted = go (eqb (length d) 0) refl
     where
-      go : (t : Bool) → eqb (length d) 0 ≡ t → decrypt k n (if t then [] else cbc_encrypt (ciph k) (ciph k n) (pad d)) ≡ some d
-      go true e = ap some (sym (empty d (eqb-true (length d) 0 e)))
+      go : (t : Bool) → eqb (length d) 0 ≡ t → decrypt k n (if t then [] else cbc_encrypt (ciph k) (ciph k n) (pad d)) ≡ Some d
+      go true e = ap Some (sym (empty d (eqb-true (length d) 0 e)))
       go false e =
           let c : Bytes = cbc_encrypt (ciph k) (ciph k n) (pad d) in
           let h : 0 < length d = some_data (eqb-false (length d) 0 e) in

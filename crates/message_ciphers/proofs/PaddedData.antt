@@ -1,6 +1,6 @@
 -- Padded data: whole blocks of bytes, in which the data is found again.
 use mathlib.Core.Path.{◌≡◌, refl, ap}
-use mathlib.Core.Option.{some}
+use Rattle.std.specs.Prelude.{Some}
 use mathlib.Core.List.{◌∷◌}
 use Prim.Native.Nat.{◌-◌, ◌%◌, ◌<◌}
 use native.Mathlib.Omega.{arith}
@@ -22,6 +22,6 @@ module _ (d : Bytes) where
   unfolding pad padding
   padded_bytes h = bytes_append d (0x80 ∷ zeros (15 - length d % 16)) h (bytes_cons 0x80 (zeros (15 - length d % 16)) (omega arith) (bytes_zeros (15 - length d % 16)))
 
-  pub data_padded : 0 < length d → data_in (pad d) (unpad (pad d)) ≡ some d
+  pub data_padded : 0 < length d → data_in (pad d) (unpad (pad d)) ≡ Some d
   unfolding data_in pad
-  data_padded h = rw (unpad_pad d h) (ap some (take_at d (padding (length d)) (length d) refl))
+  data_padded h = rw (unpad_pad d h) (ap Some (take_at d (padding (length d)) (length d) refl))

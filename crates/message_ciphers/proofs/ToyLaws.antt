@@ -2,7 +2,7 @@
 use mathlib.Core.Path.{◌≡◌, refl, sym, ap, ap₂, ◌∙◌}
 use mathlib.Core.Bool.{Bool, true, false}
 use mathlib.Core.List.{[], ◌∷◌}
-use mathlib.Core.Option.{some}
+use Rattle.std.specs.Prelude.{Some}
 use Prim.Native.Nat.{ℕ}
 use native.Mathlib.Omega.{arith}
 use borrow.Author.Tests.{eqb-true, eqb-false, ne_eqb}
@@ -39,12 +39,12 @@ toy_length k n d = go (eqb (length d) 0)
     go true = refl
     go false = length-xor_all (mask k n) (pad d) ∙ length_pad d
 
-toy_undone : (k n d : Bytes) → toy_decrypt k n (toy_encrypt k n d) ≡ some d
+toy_undone : (k n d : Bytes) → toy_decrypt k n (toy_encrypt k n d) ≡ Some d
 unfolding toy_encrypt toy_decrypt padded_length
 toy_undone k n d = go (eqb (length d) 0) refl
   where
-    go : (t : Bool) → eqb (length d) 0 ≡ t → toy_decrypt k n (if t then [] else xor_all (mask k n) (pad d)) ≡ some d
-    go true e = ap some (sym (no_data d (eqb-true (length d) 0 e)))
+    go : (t : Bool) → eqb (length d) 0 ≡ t → toy_decrypt k n (if t then [] else xor_all (mask k n) (pad d)) ≡ Some d
+    go true e = ap Some (sym (no_data d (eqb-true (length d) 0 e)))
     go false e =
         let f : length d ≡ 0 → ⊥ = eqb-false (length d) 0 e in
         let g : length (xor_all (mask k n) (pad d)) ≡ 0 → ⊥ = λ z. omega (arith, length_pad d, length-xor_all (mask k n) (pad d), z) in

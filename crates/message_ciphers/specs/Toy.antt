@@ -2,8 +2,7 @@
 -- Every byte of the key, the counter and the input counts, and all 16 bytes of a MAC depend on them: a run with another
 -- key, counter or chaining value gives another field.
 use mathlib.Core.List.{[], ◌∷◌, ◌++◌, foldr, map}
-use Rattle.std.proofs.Math.Option.{Option, some}
-use Rattle.std.specs.Prelude.{ℕ, ◌+◌, ◌*◌, ◌%◌, eqb, length}
+use Rattle.std.specs.Prelude.{ℕ, ◌+◌, ◌*◌, ◌%◌, eqb, length, Option, Some}
 use Rattle.octets.specs.Bytes.{Bytes, ◌⊕◌, zeros}
 use Rattle.std.specs.Prelude.{if◌then◌else◌}
 use Rattle.field_padding.specs.Padding.{pad, unpad}
@@ -29,7 +28,7 @@ unfoldable pub toy_encrypt : Bytes → Bytes → Bytes → Bytes
 toy_encrypt k n d = if eqb (length d) 0 then [] else xor_all (mask k n) (pad d)
 
 unfoldable pub toy_decrypt : Bytes → Bytes → Bytes → Option Bytes
-toy_decrypt k n c = if eqb (length c) 0 then some [] else data_in (xor_all (mask k n) c) (unpad (xor_all (mask k n) c))
+toy_decrypt k n c = if eqb (length c) 0 then Some [] else data_in (xor_all (mask k n) c) (unpad (xor_all (mask k n) c))
 
 unfoldable pub toy : Ciphers
 toy = record { mac = toy_mac; encrypt = toy_encrypt; decrypt = toy_decrypt }

@@ -2,11 +2,11 @@
 use mathlib.Core.Path.{◌≡◌, refl, sym, ap, ◌∙◌}
 use mathlib.Core.Logic.{◌⊎◌, inl, inr}
 use mathlib.Core.List.{List, [], ◌∷◌, ◌++◌, append_assoc, Memᴰ}
-use mathlib.Core.Option.{Option, some}
 use Prim.Native.Nat.{ℕ, suc, ◌+◌, ◌≤◌, ◌<◌}
 use native.Mathlib.Omega.{arith}
 use lib.ListN.{length, take, length-append}
 use lib.Seq.{append_snoc, take_at}
+use Rattle.std.specs.Prelude.{Option, Some}
 use Rattle.octets.specs.Bytes.{Bytes, IsBytes}
 use Rattle.field_laws.specs.Written.{WholeBlocks}
 use Rattle.message_answer.specs.Message.{Message}
@@ -20,7 +20,7 @@ pub record Lawful {H : Type 0} (D : Direction H) (first : Log H → Bytes) (decr
   pub begins : (log : Log H) (h : H) (covered : Bytes) → (rest : Bytes) × (D.input log h covered ≡ first log ++ rest)
   pub first_length : (log : Log H) → length (first log) ≡ 16
   pub blocks : (place : ℕ) (d : Bytes) → IsBytes d → length d < 65504 → WholeBlocks 65519 (D.encrypt place d)
-  pub decrypt_encrypt : (place : ℕ) (d : Bytes) → IsBytes d → decrypt place (D.encrypt place d) ≡ some d
+  pub decrypt_encrypt : (place : ℕ) (d : Bytes) → IsBytes d → decrypt place (D.encrypt place d) ≡ Some d
 
 module _ {H : Type 0} (D : Direction H) where
   -- ---- fields handed out
@@ -80,7 +80,7 @@ module _ {H : Type 0} (D : Direction H) where
     module _ {first : Log H → Bytes} {decrypt : ℕ → Bytes → Option Bytes} (law : Lawful D first decrypt) (m : Message H) (c covered : Bytes)
         (reads : (h : H) (c' : Bytes) → WholeBlocks 65519 c'
         → D.input l.accepted m.header covered ≡ D.input l.accepted h (D.objects h c') → (m.header ≡ h) × (c ≡ c'))
-        (text : decrypt (suc (length l.accepted)) c ≡ some m.payload) where
+        (text : decrypt (suc (length l.accepted)) c ≡ Some m.payload) where
       abbrev A : Log H
       A = l.accepted
 
@@ -115,7 +115,7 @@ module _ {H : Type 0} (D : Direction H) where
 
           data_same : m.payload ≡ n.payload
           data_same =
-              let e : some m.payload ≡ some n.payload =
+              let e : Some m.payload ≡ Some n.payload =
               sym text ∙ ap (decrypt (suc (length A))) parts.1 ∙ law.decrypt_encrypt (suc (length A)) n.payload t.made.bytes in cc
 
           whole : x ≡ t.entry

@@ -2,10 +2,10 @@
 #![tactic(auto)]
 
 ghost use Rattle.std.specs.Prelude.{◌≡◌};
-ghost use Rattle.aes_key_expansion.specs.KeyExpansion.{schedule};
+ghost use Rattle.aes_key_expansion.specs.ExpandedKey.{expanded_key};
 ghost use Rattle.message_key.specs.SessionKeys.{key_size};
 
-use aes_key_expansion::{KeySize, key_expansion};
+use aes_key_expansion::{ExpandedKey, KeySize};
 use session_suite::Suite;
 
 // CS2 uses AES-128, CS7 AES-256.
@@ -18,9 +18,18 @@ pub fn key_size(suite: Suite) -> KeySize
     }
 }
 
-// The schedule of a key of that suite.
-pub fn expanded(suite: Suite, key: [u8; 32]) -> [[u8; 4]; 60]
-    ensures { result ≡ schedule (key_size suite) key }
-{
-    key_expansion(key_size(suite), key)
+// A key of that suite, in the 32 bytes that a session stores it in.
+#[derive(Clone, Copy)]
+pub struct SessionKey {
+    pub suite: Suite,
+    pub bytes: [u8; 32],
+}
+
+impl SessionKey {
+    // Made ready for the rounds of its suite's AES.
+    pub fn expanded(self) -> ExpandedKey
+        ensures { result ≡ expanded_key (key_size self.suite) self.bytes }
+    {
+        ExpandedKey::new(key_size(self.suite), self.bytes)
+    }
 }

@@ -1,6 +1,5 @@
 -- Rules 5.8 and 5.9: which commands and statuses are permitted, and what their fields must hold.
-use Rattle.std.specs.Prelude.{Bool, ◌&&◌, ◌||◌, not, ℕ, eqb, ltb}
-use Rattle.std.specs.Prelude.{if◌then◌else◌}
+use Rattle.std.specs.Prelude.{Bool, ◌&&◌, ◌||◌, not, ℕ, eqb, ltb, if◌then◌else◌}
 use Rattle.field_expected.specs.declared.Need.{Need}
 use Rattle.field_expected.specs.declared.Need.TheVariants.{Must, May, MustNot}
 use Rattle.field_expected.specs.declared.Second.TheVariants.{Le, Status}

@@ -4,11 +4,10 @@
 use mathlib.Core.Path.{◌≡◌, refl}
 use mathlib.Core.Bool.{Bool, true, false}
 use mathlib.Core.List.{List, [], ◌∷◌, ◌++◌, map}
-use mathlib.Core.Option.{none}
 use Prim.Native.Nat.{ℕ}
 use lib.ListN.{replicate}
 use Rattle.octets.specs.Bytes.{Bytes, zeros}
-use Rattle.std.specs.Prelude.{if◌then◌else◌}
+use Rattle.std.specs.Prelude.{if◌then◌else◌, None}
 use Rattle.message_mac.specs.Same.{same}
 use Rattle.field_padding.specs.Padding.{padding, pad, padded_length, marked, mark_before, unpad}
 use Rattle.field_ber_length.specs.Length.{length_field, read_length, is_shortest}
@@ -19,6 +18,7 @@ use Rattle.field_read.specs.Field.{noted as notedObject, ended, on_object, walk,
 use Rattle.field_write.specs.Objects.{object, encrypted_data, le_object, status_word, mac_object, command_objects, response_objects, command_field, response_field}
 use Rattle.field_size.specs.Lengths.{ciphertext_length, encrypted_data_length, command_length, response_length}
 use Rattle.message_mac.specs.MacInput.{encoded_header, command_mac_input, response_mac_input}
+use Rattle.apdu.specs.Apdu.{header, status}
 use Rattle.session_rules.specs.Valid.{keeps_phase, valid, counts_as_open}
 use Rattle.session_rules.specs.ZeroBytes.{all_zero, keys_end, keys_zero, mcvs_zero}
 use Rattle.session_turn.specs.Turn.{is_turn}
@@ -30,7 +30,7 @@ use Rattle.session_suite.specs.declared.Suite.TheVariants.{Cs2}
 use Rattle.session.specs.declared.Session.{Session}
 use Rattle.refusal.specs.Refusal.{number, extra}
 use Rattle.message_ciphers.specs.Ciphers.{Ciphers}
-use Rattle.message_answer.specs.Message.{CommandHeader, StatusWord, Response, CommandGiven}
+use Rattle.message_answer.specs.Message.{CommandHeader, command_header, StatusWord, Response, CommandGiven}
 use Rattle.message_permission.specs.Permission.{ins_permitted, le_need, data_need, command_permitted, status_permitted, command_wanted, response_wanted}
 use Rattle.octets_numbers.specs.BigEndian.{big_endian}
 use Rattle.message_counter.specs.Counter.{command_counter, response_counter}
@@ -62,14 +62,14 @@ at side phase n =
     }
 
 head : ℕ → Bool → CommandHeader
-head ins le = record { ins = ins; p1 = 0; p2 = 0; le = le }
+head ins le = command_header (header ins 0 0) le
 
 -- MAC always zeros; every text is badly padded
 bad : Ciphers
-bad = record { mac = λ k m. zeros 16; encrypt = λ k n d. []; decrypt = λ k n c. none }
+bad = record { mac = λ k m. zeros 16; encrypt = λ k n d. []; decrypt = λ k n c. None }
 
 sw : StatusWord
-sw = record { sw1 = 0x6A; sw2 = 0x82 }
+sw = status 0x6A 0x82
 
 field : ℕ → Bytes
 field b = command_field (replicate 16 9) false (replicate 8 b)
@@ -81,7 +81,7 @@ phase_of : Session → List ℕ
 phase_of s = s.count ∷ (if counts_as_open s then 1 else 0) ∷ []
 
 card : Bytes → ℕ → Out CommandGiven
-card f room = card_unwraps bad (at Card Ready 3) 0x20 0 0 f room
+card f room = card_unwraps bad (at Card Ready 3) (header 0x20 0 0) f room
 
 host : Bytes → ℕ → Out Response
 host f room = host_unwraps bad (at Host Pending 3) sw f room
@@ -115,9 +115,9 @@ record Answered : Type 0 where
   u7 : numbers (card (0x97 ∷ []) 0).answer ≡ 7 ∷ 0 ∷ []
   u8 : numbers (card [] 0).answer ≡ 8 ∷ 0 ∷ []
   -- VERIFY with '97', GET DATA without it, CHANGE REFERENCE DATA without data
-  u7_le : numbers (card_unwraps bad (at Card Ready 3) 0x20 0 0 (command_field [] true (zeros 8)) 0).answer ≡ 7 ∷ 0 ∷ []
-  u8_le : numbers (card_unwraps bad (at Card Ready 3) 0xCB 0 0 (field 0) 0).answer ≡ 8 ∷ 0 ∷ []
-  u8_data : numbers (card_unwraps bad (at Card Ready 3) 0x24 0 0 (command_field [] false (zeros 8)) 0).answer ≡ 8 ∷ 0 ∷ []
+  u7_le : numbers (card_unwraps bad (at Card Ready 3) (header 0x20 0 0) (command_field [] true (zeros 8)) 0).answer ≡ 7 ∷ 0 ∷ []
+  u8_le : numbers (card_unwraps bad (at Card Ready 3) (header 0xCB 0 0) (field 0) 0).answer ≡ 8 ∷ 0 ∷ []
+  u8_data : numbers (card_unwraps bad (at Card Ready 3) (header 0x24 0 0) (command_field [] false (zeros 8)) 0).answer ≡ 8 ∷ 0 ∷ []
   u6 : numbers (card (field 1) 15).answer ≡ 6 ∷ 16 ∷ []
   u9 : numbers (card (field 1) 16).answer ≡ 9 ∷ 0 ∷ []
   u10 : numbers (card (field 0) 16).answer ≡ 10 ∷ 0 ∷ []
@@ -125,9 +125,9 @@ record Answered : Type 0 where
   u9_left : phase_of (card (field 1) 16).next ≡ 0 ∷ 0 ∷ []
   u10_left : phase_of (card (field 0) 16).next ≡ 0 ∷ 0 ∷ []
   -- the card wraps
-  v1 : numbers (wrap_response_checks (at Host Closed 9) (record { sw1 = 0x61; sw2 = 0 }) 16384 0) ≡ 1 ∷ 0 ∷ []
-  v2 : numbers (wrap_response_checks (at Host Pending 2) (record { sw1 = 0x61; sw2 = 0 }) 16384 0) ≡ 2 ∷ 0 ∷ []
-  v3 : numbers (wrap_response_checks (at Card Pending 2) (record { sw1 = 0x61; sw2 = 0 }) 16384 0) ≡ 3 ∷ 0 ∷ []
+  v1 : numbers (wrap_response_checks (at Host Closed 9) (status 0x61 0) 16384 0) ≡ 1 ∷ 0 ∷ []
+  v2 : numbers (wrap_response_checks (at Host Pending 2) (status 0x61 0) 16384 0) ≡ 2 ∷ 0 ∷ []
+  v3 : numbers (wrap_response_checks (at Card Pending 2) (status 0x61 0) 16384 0) ≡ 3 ∷ 0 ∷ []
   v4 : numbers (wrap_response_checks (at Card Pending 2) sw 16384 0) ≡ 4 ∷ 0 ∷ []
   v6 : numbers (wrap_response_checks (at Card Pending 2) sw 16383 16402) ≡ 6 ∷ 16403 ∷ []
   v : numbers (wrap_response_checks (at Card Pending 2) sw 16383 16403) ≡ []

@@ -1,7 +1,6 @@
 -- The ways through a call: a refusal, or every test passed and the accepting outcome.
 use mathlib.Core.Path.{◌≡◌}
 use mathlib.Core.Bool.{true}
-use mathlib.Core.Option.{some}
 use Prim.Native.Nat.{ℕ, ◌+◌, ◌≤◌, ◌<◌}
 use borrow.Author.Tests.{leb-true, ltb-true}
 use lib.ListN.{length, take}
@@ -9,8 +8,9 @@ use Rattle.message_answer.proofs.Required.{require_gave, then_case}
 use Rattle.octets.specs.Bytes.{Bytes}
 use Rattle.field_read.specs.Field.{read_field, ciphertext_of, covered_of, mac_of}
 use Rattle.field_read.specs.declared.Objects.{Objects}
-use Rattle.field_read.specs.declared.FieldRead.{FieldRead}
-use Rattle.field_read.specs.declared.FieldRead.TheVariants.{Read}
+use Rattle.std.specs.Prelude.{Result, Ok, Some}
+use Rattle.apdu.specs.declared.Header.{Header}
+use Rattle.field_read.specs.declared.FieldError.{FieldError}
 use Rattle.field_size.specs.Lengths.{command_length, response_length}
 use Rattle.refusal.specs.declared.Refusal.{Refusal}
 use Rattle.session_suite.specs.StoredKeys.{key_in}
@@ -35,9 +35,9 @@ use Rattle.message_protocol.specs.Response.{wrap_response_checks, unwrap_respons
 -- ---- stages
 
 -- an unwrap: its tests, the reading, the stages behind it, and what it accepts
-pub unwrap_case : {A : Type 0} (Q : Answer (Outcome A) → Type 0) (checks : Answer (Unit {0})) (read : FieldRead) (text : Objects → Answer Bytes)
+pub unwrap_case : {A : Type 0} (Q : Answer (Outcome A) → Type 0) (checks : Answer (Unit {0})) (read : Result Objects FieldError) (text : Objects → Answer Bytes)
     (accepted : Objects → Bytes → Outcome A) → ((r : Refusal) → Q (refused r))
-    → ((u : Unit {0}) (o : Objects) (d : Bytes) → checks ≡ gave u → read ≡ Read o → text o ≡ gave d → Q (gave (accepted o d)))
+    → ((u : Unit {0}) (o : Objects) (d : Bytes) → checks ≡ gave u → read ≡ Ok o → text o ≡ gave d → Q (gave (accepted o d)))
     → Q (checks and_then (λ u. objects_of read and_then (λ o. text o and_then (λ d. gave (accepted o d)))))
 unwrap_case Q checks read text accepted stop go =
     then_case Q checks _ (λ r e. stop r) (λ u e.
@@ -144,30 +144,30 @@ module _ (C : Ciphers) where
       (λ u e. go (may_wrap_response s m.header (length m.payload) room u e))
 
   -- a field read, room for its data, a right MAC, and right padding
-  pub record CommandRead (s : Session) (ins p1 p2 : ℕ) (field : Bytes) (room : ℕ) (o : Objects) (d : Bytes) : Type 0 where
-    pub may : MayUnwrapCommand s ins (length field)
-    pub read : read_field (command_wanted ins) field ≡ Read o
+  pub record CommandRead (s : Session) (header : Header) (field : Bytes) (room : ℕ) (o : Objects) (d : Bytes) : Type 0 where
+    pub may : MayUnwrapCommand s header.ins (length field)
+    pub read : read_field (command_wanted header.ins) field ≡ Ok o
     pub fits : length (ciphertext_of field o) ≤ room
-    pub right : mac_of field o ≡ take 8 (command_mac C s (header_read ins p1 p2 o) (covered_of field o))
-    pub text : C.decrypt (key_in s.suite s.sk_enc) (command_counter (s.count + 1)) (ciphertext_of field o) ≡ some d
+    pub right : mac_of field o ≡ take 8 (command_mac C s (header_read header o) (covered_of field o))
+    pub text : C.decrypt (key_in s.suite s.sk_enc) (command_counter (s.count + 1)) (ciphertext_of field o) ≡ Some d
 
-  pub card_unwraps_lem : (Q : Out CommandGiven → Type 0) (s : Session) (ins p1 p2 : ℕ) (field : Bytes) (room : ℕ) → Refuses Q s
-      → ((o : Objects) (d : Bytes) → CommandRead s ins p1 p2 field room o d
-      → Q (given (command_accepted s o.second (command_mac C s (header_read ins p1 p2 o) (covered_of field o)) d)))
-      → Q (card_unwraps C s ins p1 p2 field room)
+  pub card_unwraps_lem : (Q : Out CommandGiven → Type 0) (s : Session) (header : Header) (field : Bytes) (room : ℕ) → Refuses Q s
+      → ((o : Objects) (d : Bytes) → CommandRead s header field room o d
+      → Q (given (command_accepted s o.second (command_mac C s (header_read header o) (covered_of field o)) d)))
+      → Q (card_unwraps C s header field room)
   unfolding open_command card_unwraps concluded
-  card_unwraps_lem Q s ins p1 p2 field room stop go =
+  card_unwraps_lem Q s header field room stop go =
       unwrap_case (λ (a : Answer (Outcome CommandGiven)). Q (concluded s a))
-      (unwrap_command_checks s ins (length field)) (read_field (command_wanted ins) field) _ _ stop (λ u o d e f g.
+      (unwrap_command_checks s header.ins (length field)) (read_field (command_wanted header.ins) field) _ _ stop (λ u o d e f g.
       let passed = verified_gave C _ _ _ _ room d g in
-      go o d (record { may = may_unwrap_command s ins (length field) u e; read = f; fits = passed.fits; right = passed.right; text = passed.text }))
+      go o d (record { may = may_unwrap_command s header.ins (length field) u e; read = f; fits = passed.fits; right = passed.right; text = passed.text }))
 
   pub record ResponseRead (s : Session) (sw : StatusWord) (field : Bytes) (room : ℕ) (o : Objects) (d : Bytes) : Type 0 where
     pub may : MayUnwrapResponse s sw (length field)
-    pub read : read_field (response_wanted sw) field ≡ Read o
+    pub read : read_field (response_wanted sw) field ≡ Ok o
     pub fits : length (ciphertext_of field o) ≤ room
     pub right : mac_of field o ≡ take 8 (response_mac C s (covered_of field o))
-    pub text : C.decrypt (key_in s.suite s.sk_enc) (response_counter s.count) (ciphertext_of field o) ≡ some d
+    pub text : C.decrypt (key_in s.suite s.sk_enc) (response_counter s.count) (ciphertext_of field o) ≡ Some d
 
   pub host_unwraps_lem : (Q : Out Response → Type 0) (s : Session) (sw : StatusWord) (field : Bytes) (room : ℕ) → Refuses Q s
       → ((o : Objects) (d : Bytes) → ResponseRead s sw field room o d → Q (given (response_accepted s sw (response_mac C s (covered_of field o)) d)))

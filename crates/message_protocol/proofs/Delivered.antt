@@ -2,7 +2,6 @@
 use mathlib.Core.Path.{◌≡◌, refl, sym, ap, ap₂, ◌∙◌, subst}
 use mathlib.Core.Bool.{Bool, true, false, ◌&&◌}
 use mathlib.Core.List.{[]}
-use mathlib.Core.Option.{some}
 use Prim.Native.Nat.{ℕ, ◌+◌, ◌*◌, ◌/◌, ◌<◌, ◌≤◌}
 use native.Mathlib.Omega.{arith}
 use borrow.Author.Tests.{lt-ltb, le-leb}
@@ -11,7 +10,7 @@ use lib.ListN.{length, take}
 use lib.Seq.{length-take-le}
 use Rattle.octets.proofs.Tests.{both}
 use Rattle.octets.specs.Bytes.{Bytes, IsBytes}
-use Rattle.std.specs.Prelude.{if◌then◌else◌}
+use Rattle.std.specs.Prelude.{if◌then◌else◌, Some}
 use Rattle.field_padding.specs.Padding.{padded_length}
 use Rattle.field_read.specs.Field.{ciphertext_of, covered_of}
 use Rattle.field_read.specs.declared.Objects.{Objects}
@@ -38,7 +37,7 @@ use Rattle.session.specs.declared.Phase.TheVariants.{Ready, Pending}
 use Rattle.session.specs.declared.Session.{Session}
 use Rattle.message_ciphers.specs.Ciphers.{Ciphers, Laws, IsKey}
 use Rattle.message_ciphers.specs.Aes.{aes_ciphers}
-use Rattle.message_answer.specs.Message.{CommandHeader, Command, Response, max_command_data, max_response_data, command_limit}
+use Rattle.message_answer.specs.Message.{CommandHeader, command_header, header_of, Command, Response, max_command_data, max_response_data, command_limit}
 use Rattle.message_permission.specs.Permission.{ins_permitted, data_need, le_need, command_permitted, status_permitted, command_wanted, response_wanted}
 use Rattle.message_counter.specs.Counter.{command_counter, response_counter}
 use Rattle.message_answer.specs.Answer.{gave, require◌else◌⨾◌, ◌and_then◌, concluded}
@@ -163,10 +162,10 @@ module _ (C : Ciphers) (L : Laws C) (h c : Session) (m : Command) (wrapRoom unwr
       (omega (arith, length_command_field x n size (take 8 full) mac_size m.header.le, command_short n m.header.le fits)))
       (pass _ _ _ _ (lt-ltb c.count command_limit (omega (arith, step.counts, counted))) refl))))
 
-  header_same : header_read m.header.ins m.header.p1 m.header.p2 o ≡ m.header
-  header_same = ap (λ (le : Bool). record { ins = m.header.ins; p1 = m.header.p1; p2 = m.header.p2; le = le }) back.second
+  header_same : header_read (header_of m.header) o ≡ m.header
+  header_same = ap (command_header (header_of m.header)) back.second
 
-  mac_same : command_mac C c (header_read m.header.ins m.header.p1 m.header.p2 o) (covered_of field o) ≡ full
+  mac_same : command_mac C c (header_read (header_of m.header) o) (covered_of field o) ≡ full
   unfolding command_mac
   mac_same =
       ap₂ (λ (head : CommandHeader) (covered : Bytes). C.mac (key_in c.suite c.sk_mac) (command_input c.command_mcv head covered))
@@ -174,7 +173,7 @@ module _ (C : Ciphers) (L : Laws C) (h c : Session) (m : Command) (wrapRoom unwr
       ∙ ap₂ (λ (k mcv : Bytes). C.mac k (command_input mcv m.header (command_objects x m.header.le)))
       (ap₂ key_in step.suites step.macs) step.command_mcvs
 
-  text_same : C.decrypt (key_in c.suite c.sk_enc) (command_counter (c.count + 1)) (ciphertext_of field o) ≡ some m.payload
+  text_same : C.decrypt (key_in c.suite c.sk_enc) (command_counter (c.count + 1)) (ciphertext_of field o) ≡ Some m.payload
   unfolding command_ciphertext
   text_same =
       ap₂ (λ (k : Bytes) (i : ℕ). C.decrypt k (command_counter (i + 1)) (ciphertext_of field o)) (ap₂ key_in step.suites step.encs) step.counts
@@ -183,12 +182,12 @@ module _ (C : Ciphers) (L : Laws C) (h c : Session) (m : Command) (wrapRoom unwr
       (command_counter_is (h.count + 1)) bytes
 
   text_given : verified_text C (key_in c.suite c.sk_enc) (command_counter (c.count + 1))
-      (command_mac C c (header_read m.header.ins m.header.p1 m.header.p2 o) (covered_of field o)) (received_in field o) unwrapRoom ≡ gave m.payload
+      (command_mac C c (header_read (header_of m.header) o) (covered_of field o)) (received_in field o) unwrapRoom ≡ gave m.payload
   text_given =
       gave_verified C _ _ _ _ unwrapRoom m.payload
       (record { fits = omega (arith, ap length back.encrypted, size, unwrapFits); right = back.tag ∙ ap (take 8) (sym mac_same); text = text_same })
 
-  unwraps : card_unwraps C c m.header.ins m.header.p1 m.header.p2 field unwrapRoom
+  unwraps : card_unwraps C c (header_of m.header) field unwrapRoom
       ≡ record { answer = gave (record { payload = m.payload; le = m.header.le }); next = command_taken c full }
   unfolding open_command card_unwraps command_accepted concluded ◌and_then◌ objects_of
   unwraps = rw (unwrap_checks, back.accepted, text_given, mac_same, back.second)
@@ -308,7 +307,7 @@ module _ (C : Ciphers) (L : Laws C) (h c : Session) (m : Response) (wrapRoom unw
       ap (λ (covered : Bytes). C.mac (key_in h.suite h.sk_rmac) (response_mac_input h.response_mcv covered)) response_back.covers
       ∙ sym whole_is
 
-  response_text : C.decrypt (key_in h.suite h.sk_enc) (response_counter h.count) (ciphertext_of sent q) ≡ some m.payload
+  response_text : C.decrypt (key_in h.suite h.sk_enc) (response_counter h.count) (ciphertext_of sent q) ≡ Some m.payload
   response_text =
       ap (C.decrypt (key_in h.suite h.sk_enc) (response_counter h.count)) (response_back.encrypted ∙ response_encrypted)
       ∙ L.decrypt_encrypt (key_in h.suite h.sk_enc) (response_counter h.count) m.payload keyed.enc

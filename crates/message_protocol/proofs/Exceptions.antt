@@ -2,6 +2,7 @@
 -- may be any list of numbers.
 use Prim.Native.Nat.{ℕ}
 use Rattle.octets.specs.Bytes.{Bytes}
+use Rattle.apdu.specs.declared.Header.{Header}
 use Rattle.refusal.specs.declared.Refusal.{Refusal}
 use Rattle.session_suite.specs.StoredKeys.{Keys}
 use Rattle.session.specs.declared.Side.{Side}
@@ -18,8 +19,8 @@ module _ (C : Ciphers) (K : Keys) (t : Transcript) where
   refusal_not_excepted : (c : Call) (r : Refusal) → BreaksIn C K t c (refused r) → ⊥
   refusal_not_excepted c r b = b
 
-any_command_field : (side : Side) (ins p1 p2 : ℕ) (field : Bytes) (room : ℕ) → CallBytes (unwrap_command side ins p1 p2 field room)
-any_command_field side ins p1 p2 field room = tt
+any_command_field : (side : Side) (header : Header) (field : Bytes) (room : ℕ) → CallBytes (unwrap_command side header field room)
+any_command_field side header field room = tt
 
 any_response_field : (side : Side) (sw : StatusWord) (field : Bytes) (room : ℕ) → CallBytes (unwrap_response side sw field room)
 any_response_field side sw field room = tt

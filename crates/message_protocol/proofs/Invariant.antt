@@ -3,20 +3,20 @@ use mathlib.Core.Path.{◌≡◌, refl, sym, ap, ap₂, ◌∙◌}
 use mathlib.Core.Logic.{◌⊎◌, inl, inr}
 use mathlib.Core.Bool.{true}
 use mathlib.Core.List.{[], ◌∷◌, ◌++◌, Memᴰ}
-use mathlib.Core.Option.{some}
 use Prim.Native.Nat.{ℕ, suc, ◌+◌}
 use native.Mathlib.Omega.{arith}
 use lib.ListN.{length, take, length-append}
 use Rattle.octets.specs.Bytes.{Bytes, IsBytes}
 use Rattle.field_read.specs.Field.{read_field, ciphertext_of, covered_of}
 use Rattle.field_read.specs.declared.Objects.{Objects}
-use Rattle.field_read.specs.declared.FieldRead.TheVariants.{Read}
+use Rattle.std.specs.Prelude.{Ok, Some}
 use Rattle.field_write.specs.Objects.{command_objects, response_objects, mac_object, command_field, response_field}
 use Rattle.message_mac.specs.MacInput.{encoded_header, command_mac_input, response_mac_input}
 use Rattle.field_laws.specs.Covered.{data_in, second_in, sw1_in, sw2_in}
 use Rattle.field_laws.specs.Written.{WholeBlocks}
 use Rattle.field_laws.proofs.Determined.{determined}
 use Rattle.field_laws.proofs.CoveredWritten.{command_data, command_le, response_data, response_status}
+use Rattle.apdu.specs.declared.Header.{Header}
 use Rattle.session.specs.Session.{closed}
 use Rattle.session_turn.specs.Transitions.{command_taken, response_taken}
 use Rattle.session_suite.specs.StoredKeys.{key_in, Keys}
@@ -26,7 +26,7 @@ use Rattle.session.specs.declared.Side.TheVariants.{Host, Card}
 use Rattle.session.specs.declared.Phase.TheVariants.{Ready, Pending}
 use Rattle.session.specs.declared.Session.{Session}
 use Rattle.message_ciphers.specs.Ciphers.{Ciphers, Laws, IsKey}
-use Rattle.message_answer.specs.Message.{CommandHeader, StatusWord, Command, Response, CommandGiven}
+use Rattle.message_answer.specs.Message.{CommandHeader, header_of, StatusWord, Command, Response, CommandGiven}
 use Rattle.message_permission.specs.Permission.{command_wanted, response_wanted}
 use Rattle.message_counter.specs.Counter.{command_counter, response_counter}
 use Rattle.message_protocol.specs.Command.{command_input, command_mac, command_ciphertext, command_wrapped, command_accepted, header_read}
@@ -48,28 +48,28 @@ pub record AreKeys (K : Keys) : Type 0 where
 
 -- ---- a field whose MAC input is one that was made holds what that was made of
 
-module _ (ch : Bytes) (ins p1 p2 : ℕ) (field : Bytes) (o : Objects) (read : read_field (command_wanted ins) field ≡ Read o) where
+module _ (ch : Bytes) (header : Header) (field : Bytes) (o : Objects) (read : read_field (command_wanted header.ins) field ≡ Ok o) where
   command_same : (h : CommandHeader) (c : Bytes) → WholeBlocks 65519 c
-      → command_input ch (header_read ins p1 p2 o) (covered_of field o) ≡ command_input ch h (command_objects c h.le)
-      → (header_read ins p1 p2 o ≡ h) × (ciphertext_of field o ≡ c)
+      → command_input ch (header_read header o) (covered_of field o) ≡ command_input ch h (command_objects c h.le)
+      → (header_read header o ≡ h) × (ciphertext_of field o ≡ c)
   unfolding command_input command_mac_input encoded_header
   command_same h c blocks q =
-      let g : Bytes = encoded_header ins p1 p2 in
-      let k : Bytes = encoded_header h.ins h.p1 h.p2 in
+      let g : Bytes = encoded_header header in
+      let k : Bytes = encoded_header (header_of h) in
       let n : length (ch ++ g) ≡ length (ch ++ k) = length-append ch g ∙ sym (length-append ch k) in
       let a : (ch ++ g ≡ ch ++ k) × (covered_of field o ≡ command_objects c h.le) =
       append_cut (ch ++ g) (covered_of field o) (ch ++ k) (command_objects c h.le) q n in
       let e : g ≡ k = (append_cut ch g ch k a.0 refl).1 in
-      let i : ins ≡ h.ins = cc in
-      let j : p1 ≡ h.p1 = cc in
-      let l : p2 ≡ h.p2 = cc in
-      let d = determined (command_wanted ins) field o read in
+      let i : header.ins ≡ h.ins = cc in
+      let j : header.p1 ≡ h.p1 = cc in
+      let l : header.p2 ≡ h.p2 = cc in
+      let d = determined (command_wanted header.ins) field o read in
       let le : o.second ≡ h.le = d.present ∙ ap second_in a.1 ∙ command_le c blocks h.le in (
         (λ t. record { ins = i t; p1 = j t; p2 = l t; le = le t }),
         d.encrypted ∙ ap data_in a.1 ∙ command_data c blocks h.le,
       )
 
-module _ (ch : Bytes) (sw : StatusWord) (field : Bytes) (o : Objects) (read : read_field (response_wanted sw) field ≡ Read o) where
+module _ (ch : Bytes) (sw : StatusWord) (field : Bytes) (o : Objects) (read : read_field (response_wanted sw) field ≡ Ok o) where
   response_same : (t : StatusWord) (c : Bytes) → WholeBlocks 65519 c
       → response_mac_input ch (covered_of field o) ≡ response_mac_input ch (response_objects c t.sw1 t.sw2)
       → (sw ≡ t) × (ciphertext_of field o ≡ c)
@@ -229,22 +229,22 @@ module _ (C : Ciphers) (K : Keys) where
   or_collision key A more W a (inl p) = inl p
   or_collision key A more W a (inr r) = inr (collision C key A more W a r)
 
-  objects_read_lem : (ins : ℕ) (field : Bytes) (o : Objects) → read_field (command_wanted ins) field ≡ Read o → command_read ins field ≡ o
+  objects_read_lem : (ins : ℕ) (field : Bytes) (o : Objects) → read_field (command_wanted ins) field ≡ Ok o → command_read ins field ≡ o
   objects_read_lem ins field o e = rw e
 
-  status_read : (sw : StatusWord) (field : Bytes) (o : Objects) → read_field (response_wanted sw) field ≡ Read o → response_read sw field ≡ o
+  status_read : (sw : StatusWord) (field : Bytes) (o : Objects) → read_field (response_wanted sw) field ≡ Ok o → response_read sw field ≡ o
   status_read sw field o e = rw e
 
-  module _ (L : Laws C) (G : AreKeys K) (h c : Session) (t : Transcript) (ins p1 p2 : ℕ) (field : Bytes) (room : ℕ) (o : Objects) (d : Bytes)
-      (v : Inv h c t) (read : CommandRead C c ins p1 p2 field room o d) where
+  module _ (L : Laws C) (G : AreKeys K) (h c : Session) (t : Transcript) (header : Header) (field : Bytes) (room : ℕ) (o : Objects) (d : Bytes)
+      (v : Inv h c t) (read : CommandRead C c header field room o d) where
     abbrev A : Log CommandHeader
     A = t.commands.accepted
 
     abbrev m : Command
-    m = record { header = header_read ins p1 p2 o; payload = d }
+    m = record { header = header_read header o; payload = d }
 
     abbrev i : Bytes
-    i = command_input (chaining C K.mac A) (header_read ins p1 p2 o) (covered_of field o)
+    i = command_input (chaining C K.mac A) (header_read header o) (covered_of field o)
 
     abbrev g : CommandGiven
     g = record { payload = d; le = o.second }
@@ -252,38 +252,38 @@ module _ (C : Ciphers) (K : Keys) where
     card_live : Live Card c A t.responses.wrapped
     card_live = v.card_is read.may.opened
 
-    accepted_maced : command_mac C c (header_read ins p1 p2 o) (covered_of field o) ≡ C.mac K.mac i
+    accepted_maced : command_mac C c (header_read header o) (covered_of field o) ≡ C.mac K.mac i
     unfolding command_mac
     accepted_maced =
-        ap₂ (λ (k mcv : Bytes). C.mac k (command_input mcv (header_read ins p1 p2 o) (covered_of field o))) card_live.mac_is card_live.command_is
+        ap₂ (λ (k mcv : Bytes). C.mac k (command_input mcv (header_read header o) (covered_of field o))) card_live.mac_is card_live.command_is
 
-    accepted_text : C.decrypt K.enc (command_counter (suc (length A))) (ciphertext_of field o) ≡ some d
+    accepted_text : C.decrypt K.enc (command_counter (suc (length A))) (ciphertext_of field o) ≡ Some d
     accepted_text =
         ap₂ (λ (k : Bytes) (n : ℕ). C.decrypt k (command_counter n) (ciphertext_of field o)) (sym card_live.enc_is)
         (let e : suc (length A) ≡ c.count + 1 = omega (arith, card_live.count_is) in e)
         ∙ read.text
 
-    entry_is : accepted_command C K ins p1 p2 field g A ≡ record { message = m; input = i }
+    entry_is : accepted_command C K header field g A ≡ record { message = m; input = i }
     unfolding accepted_command
     entry_is =
         ap (λ (q : Objects). record {
           message = m;
-          input = command_input (chaining C K.mac A) (header_read ins p1 p2 q) (covered_of field q);
-        }) (objects_read_lem ins field o read.read)
+          input = command_input (chaining C K.mac A) (header_read header q) (covered_of field q);
+        }) (objects_read_lem header.ins field o read.read)
 
-    pub command_accepted_lem : let a = command_accepted c o.second (command_mac C c (header_read ins p1 p2 o) (covered_of field o)) d in
-        Inv h a.next (noted C K t (unwrap_command Card ins p1 p2 field room) a.gives) ⊎ Breaks C K t (unwrap_command Card ins p1 p2 field room) a.gives
+    pub command_accepted_lem : let a = command_accepted c o.second (command_mac C c (header_read header o) (covered_of field o)) d in
+        Inv h a.next (noted C K t (unwrap_command Card header field room) a.gives) ⊎ Breaks C K t (unwrap_command Card header field room) a.gives
     unfolding noted command_accepted
     command_accepted_lem =
         go (channel_accepts (commands C K) t.commands v.keeps.command_channel (command_lawful C K L G.enc G.mac) m (ciphertext_of field o)
-        (covered_of field o) (λ h c blocks q. command_same (chaining C K.mac A) ins p1 p2 field o read.read h c blocks q) accepted_text)
+        (covered_of field o) (λ h c blocks q. command_same (chaining C K.mac A) header field o read.read h c blocks q) accepted_text)
       where
         go : Channel (commands C K) (accepts (record { message = m; input = i }) t.commands)
             ⊎ ((Memᴰ i (inputs t.commands.wrapped) → ⊥) ⊎ Repeated (chaining C K.mac) A t.commands.wrapped)
-            → Inv h (command_taken c (command_mac C c (header_read ins p1 p2 o) (covered_of field o))) (noted C K t (unwrap_command Card ins p1 p2 field room) g)
-            ⊎ Breaks C K t (unwrap_command Card ins p1 p2 field room) g
+            → Inv h (command_taken c (command_mac C c (header_read header o) (covered_of field o))) (noted C K t (unwrap_command Card header field room) g)
+            ⊎ Breaks C K t (unwrap_command Card header field room) g
         go (inr cause) =
-            inr (rw (entry_is, objects_read_lem ins field o read.read) (record {
+            inr (rw (entry_is, objects_read_lem header.ins field o read.read) (record {
               right = read.right ∙ ap (take 8) accepted_maced;
               cause = or_collision K.mac A v.keeps.command_channel.more t.commands.wrapped v.keeps.command_channel.is cause;
             }))
@@ -320,7 +320,7 @@ module _ (C : Ciphers) (K : Keys) where
     response_full =
         ap₂ (λ (k mcv : Bytes). C.mac k (response_mac_input mcv (covered_of field o))) host_live.rmac_is host_live.response_is
 
-    response_text : C.decrypt K.enc (response_counter (suc (length R))) (ciphertext_of field o) ≡ some d
+    response_text : C.decrypt K.enc (response_counter (suc (length R))) (ciphertext_of field o) ≡ Some d
     response_text =
         ap₂ (λ (k : Bytes) (n : ℕ). C.decrypt k (response_counter n) (ciphertext_of field o)) (sym host_live.enc_is) (sym waiting ∙ sym host_live.count_is)
         ∙ read.text

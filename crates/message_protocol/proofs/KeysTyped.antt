@@ -2,6 +2,8 @@
 use mathlib.Core.Path.{◌≡◌}
 use Prim.Native.Nat.{ℕ, ◌<◌}
 use native.Mathlib.Omega.{arith}
+use mir.Syntax.{w8}
+use mir.Val.{Fits}
 use lib.ListN.{length, get_or}
 use lib.Seq.{length-take-le, get_or-take}
 use Rattle.octets.specs.Bytes.{Bytes}
@@ -30,3 +32,9 @@ keys_typed s e m r fe fm fr =
       mac = of_suite s.suite s.sk_mac m fm;
       rmac = of_suite s.suite s.sk_rmac r fr;
     }
+
+-- by what the types of a session's fields say
+pub keyed_by_types : (s : Session)
+    → length s.sk_enc ≡ 32 → length s.sk_mac ≡ 32 → length s.sk_rmac ≡ 32
+    → ((i : ℕ) → Fits w8 (get_or s.sk_enc i 0)) → ((i : ℕ) → Fits w8 (get_or s.sk_mac i 0)) → ((i : ℕ) → Fits w8 (get_or s.sk_rmac i 0)) → Keyed s
+keyed_by_types s e m r fe fm fr = keys_typed s e m r (λ i. (fe i).fits) (λ i. (fm i).fits) (λ i. (fr i).fits)

@@ -27,8 +27,8 @@ module _ (C : Ciphers) (mac-long : (k m : Bytes) → length (C.mac k m) ≡ 16) 
   keeps_lengths (wrap_command side m room) =
       host_wraps_lem C Kept s m room refused_lengths
       (λ may. record { enc = l.enc; mac = l.mac; rmac = l.rmac; command = mac-long _ _; response = l.response })
-  keeps_lengths (unwrap_command side ins p1 p2 field room) =
-      card_unwraps_lem C Kept s ins p1 p2 field room refused_lengths
+  keeps_lengths (unwrap_command side header field room) =
+      card_unwraps_lem C Kept s header field room refused_lengths
       (λ o d read. record { enc = l.enc; mac = l.mac; rmac = l.rmac; command = mac-long _ _; response = l.response })
   keeps_lengths (wrap_response side m room) =
       card_wraps_lem C Kept s m room refused_lengths

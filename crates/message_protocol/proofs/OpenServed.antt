@@ -76,7 +76,7 @@ passes ok q rest e f = rw e f
 -- of every call but a closing
 abbrev pub Serves : Call → Type 0
 Serves (wrap_command side m room) = Unit {0}
-Serves (unwrap_command side ins p1 p2 field room) = Unit {0}
+Serves (unwrap_command side header field room) = Unit {0}
 Serves (wrap_response side m room) = Unit {0}
 Serves (unwrap_response side sw field room) = Unit {0}
 Serves (close side) = ⊥
@@ -94,7 +94,7 @@ module _ (C : Ciphers) (s : Session) (open_is : counts_as_open s ≡ true) where
       (require_among others _ _ _ at6
       (gave_among others tt)))))))
       (λ u. gave_among others _))
-  among (unwrap_command side ins p1 p2 field room) =
+  among (unwrap_command side header field room) =
       concluded_among others s _ (then_among others _ _
       (passes _ _ _ open_is
       (require_among others _ _ _ first
@@ -139,8 +139,8 @@ module _ (C : Ciphers) (s : Session) (open_is : counts_as_open s ≡ true) where
   stays_open (wrap_command side m room) u =
       host_wraps_lem C StaysOpen s m room (λ r a e. not_refused e)
       (λ may a e. command_served s _ may.opened (turn_is Host Ready s may.turn).1 may.counted)
-  stays_open (unwrap_command side ins p1 p2 field room) u =
-      card_unwraps_lem C StaysOpen s ins p1 p2 field room (λ r a e. not_refused e)
+  stays_open (unwrap_command side header field room) u =
+      card_unwraps_lem C StaysOpen s header field room (λ r a e. not_refused e)
       (λ o d read a e. command_served s _ read.may.opened (turn_is Card Ready s read.may.turn).1 read.may.counted)
   stays_open (wrap_response side m room) u =
       card_wraps_lem C StaysOpen s m room (λ r a e. not_refused e)

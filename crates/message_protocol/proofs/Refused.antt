@@ -1,11 +1,11 @@
 -- Demand 1, proved: a refusal's number is in its call's order, and it leaves the buffer and, but for 9 and 10, the session.
 use mathlib.Core.Path.{◌≡◌, refl, ap, ◌∙◌}
 use mathlib.Core.List.{List, [], ◌∷◌, Memᴰ}
-use mathlib.Core.Option.{Option, none, some}
 use Prim.Native.Nat.{ℕ}
 use Rattle.octets.specs.Bytes.{Bytes}
-use Rattle.field_read.specs.declared.FieldRead.{FieldRead}
-use Rattle.field_read.specs.declared.FieldRead.TheVariants.{Read, Malformed as BadField, Missing}
+use Rattle.std.specs.Prelude.{Result, Ok, Err, Option, Some, None}
+use Rattle.field_read.specs.declared.FieldError.{FieldError}
+use Rattle.field_read.specs.declared.FieldError.TheVariants.{Malformed as BadField, Missing}
 use Rattle.field_read.specs.declared.Objects.{Objects}
 use Rattle.refusal.specs.declared.Refusal.{Refusal}
 use Rattle.refusal.specs.declared.Refusal.TheVariants.{Malformed, MissingObject, BadPadding}
@@ -25,16 +25,16 @@ use Rattle.message_protocol.specs.RefusalKeeps.{order, writes, IsClosed, Refusal
 
 -- ---- the refusals of the stages that read
 
-pub objects_among : (ns : List ℕ) (read : FieldRead) → Memᴰ 7 ns → Memᴰ 8 ns → Among ns (objects_of read)
+pub objects_among : (ns : List ℕ) (read : Result Objects FieldError) → Memᴰ 7 ns → Memᴰ 8 ns → Among ns (objects_of read)
 unfolding objects_of
-objects_among ns (Read o) a b = gave_among ns o
-objects_among ns (BadField x) a b = refused_among Objects ns Malformed a
-objects_among ns (Missing tag end) a b = refused_among Objects ns MissingObject b
+objects_among ns (Ok o) a b = gave_among ns o
+objects_among ns (Err (BadField x)) a b = refused_among Objects ns Malformed a
+objects_among ns (Err (Missing tag end)) a b = refused_among Objects ns MissingObject b
 
 text_among : (ns : List ℕ) (t : Option Bytes) → Memᴰ 10 ns → Among ns (text_of t)
 unfolding text_of
-text_among ns (some d) a = gave_among ns d
-text_among ns none a = refused_among Bytes ns BadPadding a
+text_among ns (Some d) a = gave_among ns d
+text_among ns None a = refused_among Bytes ns BadPadding a
 
 pub verified_among : (ns : List ℕ) (C : Ciphers) (key counter full : Bytes) (r : Received) (room : ℕ)
     → Memᴰ 6 ns → Memᴰ 9 ns → Memᴰ 10 ns → Among ns (verified_text C key counter full r room)
@@ -57,7 +57,7 @@ module _ (C : Ciphers) (s : Session) where
       (require_among ns _ _ _ (later (later (later (later (later first)))))
       (gave_among ns tt)))))))
       (λ u. gave_among ns _))
-  in_order (unwrap_command side ins p1 p2 field room) =
+  in_order (unwrap_command side header field room) =
       let ns : List ℕ = 1 ∷ 2 ∷ 3 ∷ 4 ∷ 5 ∷ 7 ∷ 8 ∷ 6 ∷ 9 ∷ 10 ∷ [] in
       concluded_among ns s _ (then_among ns _ _
       (require_among ns _ _ _ first
@@ -99,7 +99,7 @@ module _ (C : Ciphers) (s : Session) where
   next_is : (c : Call) (r : Refusal) → (does C s c).answer ≡ refused r → (does C s c).next ≡ after_refusal s r
   unfolding does host_wraps open_command card_unwraps card_wraps open_response host_unwraps
   next_is (wrap_command side m room) r e = session_left s _ _ r e
-  next_is (unwrap_command side ins p1 p2 field room) r e = session_left s _ _ r e
+  next_is (unwrap_command side header field room) r e = session_left s _ _ r e
   next_is (wrap_response side m room) r e = session_left s _ _ r e
   next_is (unwrap_response side sw field room) r e = session_left s _ _ r e
   next_is (close side) r e = not_given_lem e

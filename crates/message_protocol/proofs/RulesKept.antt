@@ -34,8 +34,8 @@ module _ (C : Ciphers) (s : Session) (v : valid s ≡ true) where
   keeps_the_rules (wrap_command side m room) =
       host_wraps_lem C Kept s m room refused_valid
       (λ may. open_valid _ (command_served s _ may.opened (turn_is Host Ready s may.turn).1 may.counted))
-  keeps_the_rules (unwrap_command side ins p1 p2 field room) =
-      card_unwraps_lem C Kept s ins p1 p2 field room refused_valid
+  keeps_the_rules (unwrap_command side header field room) =
+      card_unwraps_lem C Kept s header field room refused_valid
       (λ o d read. open_valid _ (command_served s _ read.may.opened (turn_is Card Ready s read.may.turn).1 read.may.counted))
   keeps_the_rules (wrap_response side m room) =
       card_wraps_lem C Kept s m room refused_valid

@@ -18,9 +18,7 @@ use Rattle.session.specs.declared.Side.{Side}
 use Rattle.session.specs.declared.Side.TheVariants.{Host, Card}
 use Rattle.session.specs.declared.Phase.TheVariants.{Ready, Pending}
 use Rattle.session_suite.specs.declared.Suite.{Suite}
-use Rattle.session_suite.specs.declared.SuiteNumber.{SuiteNumber}
-use Rattle.session_suite.specs.declared.SuiteNumber.TheVariants.{Known, Unknown}
-use Rattle.session.specs.declared.Opening.TheVariants.{Opened as Done, Refused}
+use Rattle.std.specs.Prelude.{Option, Some, None, Result, Ok, Err}
 use Rattle.session.specs.declared.Session.{Session}
 use Rattle.message_ciphers.specs.Ciphers.{Ciphers, Laws}
 use Rattle.message_answer.specs.Answer.{Out, after_refusal}
@@ -60,14 +58,14 @@ module _ (C : Ciphers) (K : Keys) where
   keep L G st (wrap_command Card m room) y v =
       host_wraps_lem C (Kept st (wrap_command Card m room)) st.card m room (λ r. inl (card_refused st.host st.card st.transcript r v))
       (λ may. host_card (sym (turn_is Host Ready st.card may.turn).0 ∙ (v.card_is may.opened).side_is))
-  keep L G st (unwrap_command Host ins p1 p2 field room) y v =
-      card_unwraps_lem C (Kept st (unwrap_command Host ins p1 p2 field room)) st.host ins p1 p2 field room
+  keep L G st (unwrap_command Host header field room) y v =
+      card_unwraps_lem C (Kept st (unwrap_command Host header field room)) st.host header field room
       (λ r. inl (host_refused st.host st.card st.transcript r v))
       (λ o d read. host_card (sym (v.host_is read.may.opened).side_is ∙ (turn_is Card Ready st.host read.may.turn).0))
-  keep L G st (unwrap_command Card ins p1 p2 field room) y v =
-      card_unwraps_lem C (Kept st (unwrap_command Card ins p1 p2 field room)) st.card ins p1 p2 field room
+  keep L G st (unwrap_command Card header field room) y v =
+      card_unwraps_lem C (Kept st (unwrap_command Card header field room)) st.card header field room
       (λ r. inl (card_refused st.host st.card st.transcript r v))
-      (λ o d read. command_accepted_lem C K L G st.host st.card st.transcript ins p1 p2 field room o d v read)
+      (λ o d read. command_accepted_lem C K L G st.host st.card st.transcript header field room o d v read)
   keep L G st (wrap_response Host m room) y v =
       card_wraps_lem C (Kept st (wrap_response Host m room)) st.host m room (λ r. inl (host_refused st.host st.card st.transcript r v))
       (λ may. host_card (sym (v.host_is may.opened).side_is ∙ (turn_is Card Pending st.host may.turn).0))
@@ -106,23 +104,23 @@ module _ (C : Ciphers) (K : Keys) where
 pub record Fresh (side : Side) (n : ℕ) (K : Keys) : Type 0 where
   pub suite : Suite
   pub fits : keys_fit (key_length suite) K ≡ true
-  pub known : suite_of n ≡ Known suite
-  pub is : (opening side n K).session ≡ fresh side suite (stored K.enc) (stored K.mac) (stored K.rmac)
+  pub known : suite_of n ≡ Some suite
+  pub is : (opening side n K).next ≡ fresh side suite (stored K.enc) (stored K.mac) (stored K.rmac)
 
-not_done : {r : Refusal} {P : Type 0} → Refused r ≡ Done → P
+not_done : {r : Refusal} {u : Unit {0}} {P : Type 0} → ◌≡◌ {A = Result (Unit {0}) Refusal} (Err r) (Ok u) → P
 not_done e = let z : ◌≡◌ {A = ℕ} 0 1 = cc in let o : ⊥ = omega arith in absurd o
 
-pub opened : (side : Side) (n : ℕ) (K : Keys) → (opening side n K).answer ≡ Done → Fresh side n K
+pub opened : (side : Side) (n : ℕ) (K : Keys) → (opening side n K).answer ≡ Ok tt → Fresh side n K
 unfolding opening open_suite
 opened side n K e = go (suite_of n) refl e
   where
-    by : (suite : Suite) (t : Bool) → keys_fit (key_length suite) K ≡ t → suite_of n ≡ Known suite → (open_suite side (Known suite) K).answer ≡ Done → Fresh side n K
+    by : (suite : Suite) (t : Bool) → keys_fit (key_length suite) K ≡ t → suite_of n ≡ Some suite → (open_suite side (Some suite) K).answer ≡ Ok tt → Fresh side n K
     by suite true f q e = record { suite = suite; fits = f; known = q; is = rw (q, f) }
     by suite false f q e = not_done (rw f at e)
 
-    go : (s : SuiteNumber) → suite_of n ≡ s → (open_suite side s K).answer ≡ Done → Fresh side n K
-    go (Known suite) q e = by suite (keys_fit (key_length suite) K) refl q e
-    go Unknown q e = not_done e
+    go : (s : Option Suite) → suite_of n ≡ s → (open_suite side s K).answer ≡ Ok tt → Fresh side n K
+    go (Some suite) q e = by suite (keys_fit (key_length suite) K) refl q e
+    go None q e = not_done e
 
 pub are_keys : (suite : Suite) (K : Keys) → KeysOfBytes K → keys_fit (key_length suite) K ≡ true → AreKeys K
 are_keys suite K y e =
@@ -170,5 +168,5 @@ agreement C L host_suite card_suite K k oh oc calls y n =
     let h : Fresh Host host_suite K = opened Host host_suite K oh in
     let c : Fresh Card card_suite K = opened Card card_suite K oc in
     runs C K L (are_keys h.suite K k h.fits) (take n calls)
-    (start (opening Host host_suite K).session (opening Card card_suite K).session) (all_take n calls y)
+    (start (opening Host host_suite K).next (opening Card card_suite K).next) (all_take n calls y)
     (rw (h.is, c.is) (begins C K h.suite c.suite h.fits c.fits))

@@ -1,13 +1,12 @@
 -- Demand 3, of the calls as defined: after every call of every list the transcript agrees, or some call broke a MAC.
 -- In the terms of protocol analysis: injective agreement.
-use Rattle.std.specs.Prelude.{◌≡◌, ◌⊎◌, ℕ, ◌<◌, length, take, get_or}
+use Rattle.std.specs.Prelude.{◌≡◌, Ok, ◌⊎◌, ℕ, ◌<◌, length, take, get_or}
 use mathlib.Core.List.{List, [], ◌∷◌, Memᴰ}
 use Rattle.octets.specs.Bytes.{Bytes, IsBytes}
 use Rattle.field_read.specs.Field.{mac_of}
 use Rattle.session_suite.specs.StoredKeys.{KeysOfBytes, Keys}
 use Rattle.session.specs.Opening.{opening}
 use Rattle.session.specs.declared.Side.TheVariants.{Host, Card}
-use Rattle.session.specs.declared.Opening.TheVariants.{Opened as Done}
 use Rattle.message_ciphers.specs.Ciphers.{Ciphers}
 use Rattle.message_answer.specs.Answer.{Answer, refused, gave}
 use Rattle.message_exchange.specs.Exchange as exchange
@@ -41,9 +40,9 @@ module _ (C : Ciphers) (K : Keys) where
   -- of a call that was not refused, with the transcript before it
   abbrev pub Breaks : Transcript → (c : Call) → Gives c → Type 0
   Breaks t (wrap_command side m room) field = ⊥
-  Breaks t (unwrap_command side ins p1 p2 field room) g =
-      let e = accepted_command C K ins p1 p2 field g t.commands.accepted in
-      MacBreak C K.mac (inputs t.commands.wrapped) e.input (mac_of field (command_read ins field))
+  Breaks t (unwrap_command side header field room) g =
+      let e = accepted_command C K header field g t.commands.accepted in
+      MacBreak C K.mac (inputs t.commands.wrapped) e.input (mac_of field (command_read header.ins field))
   Breaks t (wrap_response side m room) field = ⊥
   Breaks t (unwrap_response side sw field room) m =
       let e = accepted_response C K sw field m t.responses.accepted in
@@ -66,7 +65,7 @@ module _ (C : Ciphers) (K : Keys) where
 -- data that is wrapped is bytes
 abbrev pub CallBytes : Call → Type 0
 CallBytes (wrap_command side m room) = IsBytes m.payload
-CallBytes (unwrap_command side ins p1 p2 field room) = Unit {0}
+CallBytes (unwrap_command side header field room) = Unit {0}
 CallBytes (wrap_response side m room) = IsBytes m.payload
 CallBytes (unwrap_response side sw field room) = Unit {0}
 CallBytes (close side) = Unit {0}
@@ -79,7 +78,7 @@ AllBytes (c ∷ cs) = CallBytes c × AllBytes cs
 abbrev pub Agreement : Ciphers → Type 0
 Agreement C =
     (host_suite card_suite : ℕ) (K : Keys) → KeysOfBytes K
-    → (opening Host host_suite K).answer ≡ Done → (opening Card card_suite K).answer ≡ Done
+    → (opening Host host_suite K).answer ≡ Ok tt → (opening Card card_suite K).answer ≡ Ok tt
     → (calls : List Call) → AllBytes calls → (n : ℕ)
-    → let st = start (opening Host host_suite K).session (opening Card card_suite K).session in
+    → let st = start (opening Host host_suite K).next (opening Card card_suite K).next in
     Agrees C K (run C K st (take n calls)).transcript ⊎ Excepted C K st (take n calls)

@@ -6,6 +6,7 @@ use Rattle.field_read.specs.declared.Objects.{Objects}
 use Rattle.field_write.specs.Objects.{command_objects, command_field}
 use Rattle.field_size.specs.Lengths.{command_length}
 use Rattle.message_mac.specs.MacInput.{command_mac_input}
+use Rattle.apdu.specs.declared.Header.{Header}
 use Rattle.refusal.specs.declared.Refusal.TheVariants.{SessionClosed, OutOfTurn, NotPermitted, TooLong, CommandLimit, BufferTooSmall}
 use Rattle.session_turn.specs.Transitions.{command_taken}
 use Rattle.session_suite.specs.StoredKeys.{key_in}
@@ -15,7 +16,7 @@ use Rattle.session.specs.declared.Side.TheVariants.{Host, Card}
 use Rattle.session.specs.declared.Phase.TheVariants.{Ready}
 use Rattle.session.specs.declared.Session.{Session}
 use Rattle.message_ciphers.specs.Ciphers.{Ciphers}
-use Rattle.message_answer.specs.Message.{CommandHeader, Command, max_command_data, max_command_field, command_limit, CommandGiven}
+use Rattle.message_answer.specs.Message.{CommandHeader, command_header, header_of, Command, max_command_data, max_command_field, command_limit, CommandGiven}
 use Rattle.message_permission.specs.Permission.{ins_permitted, command_permitted, command_wanted}
 use Rattle.message_counter.specs.Counter.{command_counter}
 use Rattle.message_answer.specs.Answer.{Answer, gave, require◌else◌⨾◌, ◌and_then◌, Outcome, Out, concluded}
@@ -24,7 +25,7 @@ use Rattle.message_verify.specs.VerifiedText.{Received, received_in, verified_te
 
 -- what the MAC of a command is computed over: its chaining value, its encoded header, and the field's bytes before '8E'
 unfoldable pub command_input : Bytes → CommandHeader → Bytes → Bytes
-command_input mcv h covered = command_mac_input mcv h.ins h.p1 h.p2 covered
+command_input mcv h covered = command_mac_input mcv (header_of h) covered
 
 -- the tests of a wrap, of a command with n bytes of data
 unfoldable pub wrap_command_checks : Session → CommandHeader → ℕ → ℕ → Answer (Unit {0})
@@ -48,8 +49,8 @@ unwrap_command_checks s ins n =
     gave tt
 
 -- header and Le of a command that is read
-abbrev pub header_read : ℕ → ℕ → ℕ → Objects → CommandHeader
-header_read ins p1 p2 o = record { ins = ins; p1 = p1; p2 = p2; le = o.second }
+abbrev pub header_read : Header → Objects → CommandHeader
+header_read header o = command_header header o.second
 
 -- an accepted command: data and Le, and all 16 bytes of the MAC that was computed as the next chaining value
 unfoldable pub command_accepted : Session → Bool → Bytes → Bytes → Outcome CommandGiven
@@ -83,10 +84,10 @@ module _ (C : Ciphers) where
       verified_text C (key_in s.suite s.sk_enc) (command_counter (s.count + 1)) full r room and_then (λ d.
       gave (command_accepted s le full d))
 
-  unfoldable pub card_unwraps : Session → ℕ → ℕ → ℕ → Bytes → ℕ → Out CommandGiven
-  card_unwraps s ins p1 p2 field room =
+  unfoldable pub card_unwraps : Session → Header → Bytes → ℕ → Out CommandGiven
+  card_unwraps s header field room =
       concluded s (
-      unwrap_command_checks s ins (length field) and_then (λ checked.
-      objects_of (read_field (command_wanted ins) field) and_then (λ o.
-      open_command s o.second (command_mac s (header_read ins p1 p2 o) (covered_of field o)) (received_in field o) room))
+      unwrap_command_checks s header.ins (length field) and_then (λ checked.
+      objects_of (read_field (command_wanted header.ins) field) and_then (λ o.
+      open_command s o.second (command_mac s (header_read header o) (covered_of field o)) (received_in field o) room))
       )

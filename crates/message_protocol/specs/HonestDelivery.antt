@@ -1,18 +1,17 @@
 -- Demand 2: "A message honestly wrapped and carried whole to the other end, in step and with room, unwraps to the same data,
 -- header, Le (or its absence) and status." Assumes nothing.
-use Rattle.std.specs.Prelude.{◌≡◌, true, ℕ, ◌+◌, ◌≤◌, ◌<◌, length}
+use Rattle.std.specs.Prelude.{◌≡◌, Ok, true, ℕ, ◌+◌, ◌≤◌, ◌<◌, length}
 use Rattle.octets.specs.Bytes.{Bytes, IsBytes}
 use Rattle.field_size.specs.Lengths.{ciphertext_length, command_length, response_length}
 use Rattle.session_suite.specs.StoredKeys.{key_in, KeysOfBytes, Keys}
 use Rattle.session_rules.specs.Valid.{counts_as_open}
 use Rattle.session.specs.Opening.{opening}
-use Rattle.session.specs.declared.Opening.TheVariants.{Opened as Done}
 use Rattle.session.specs.declared.Side.TheVariants.{Host, Card}
 use Rattle.session.specs.declared.Phase.{Phase}
 use Rattle.session.specs.declared.Phase.TheVariants.{Ready, Pending}
 use Rattle.session.specs.declared.Session.{Session}
 use Rattle.message_ciphers.specs.Ciphers.{Ciphers, IsKey}
-use Rattle.message_answer.specs.Message.{Command, Response, max_command_data, max_response_data, command_limit}
+use Rattle.message_answer.specs.Message.{header_of, Command, Response, max_command_data, max_response_data, command_limit}
 use Rattle.message_permission.specs.Permission.{command_permitted, status_permitted}
 use Rattle.message_answer.specs.Answer.{gave}
 use Rattle.message_protocol.specs.Command.{host_wraps, card_unwraps}
@@ -48,7 +47,7 @@ pub record CommandDelivered (C : Ciphers) (h c : Session) (m : Command) (wrapRoo
   pub card : Session
   pub wraps : host_wraps C h m wrapRoom ≡ record { answer = gave field; next = host }
   pub sized : length field ≡ command_length (length m.payload) m.header.le
-  pub unwraps : card_unwraps C c m.header.ins m.header.p1 m.header.p2 field unwrapRoom
+  pub unwraps : card_unwraps C c (header_of m.header) field unwrapRoom
       ≡ record { answer = gave (record { payload = m.payload; le = m.header.le }); next = card }
   pub again : InStep Pending host card
   pub keyed : Keyed host
@@ -87,6 +86,6 @@ DeliversResponses C =
 
 abbrev pub OpensInStep : Type 0
 OpensInStep =
-    (host_suite card_suite : ℕ) (K : Keys) → KeysOfBytes K → (opening Host host_suite K).answer ≡ Done → (opening Card card_suite K).answer ≡ Done
-    → InStep Ready (opening Host host_suite K).session (opening Card card_suite K).session
-    × (Keyed (opening Host host_suite K).session × ((opening Host host_suite K).session.count ≡ 0))
+    (host_suite card_suite : ℕ) (K : Keys) → KeysOfBytes K → (opening Host host_suite K).answer ≡ Ok tt → (opening Card card_suite K).answer ≡ Ok tt
+    → InStep Ready (opening Host host_suite K).next (opening Card card_suite K).next
+    × (Keyed (opening Host host_suite K).next × ((opening Host host_suite K).next.count ≡ 0))

@@ -14,7 +14,7 @@ use Rattle.message_protocol.specs.Transcript.{Call, wrap_command, unwrap_command
 -- the refusals of each call; that they come in the order of rule 2.5 is in the calls' definitions, and computed in proofs/Answers
 abbrev pub order : Call → List ℕ
 order (wrap_command side m room) = 1 ∷ 2 ∷ 3 ∷ 4 ∷ 5 ∷ 6 ∷ []
-order (unwrap_command side ins p1 p2 field room) = 1 ∷ 2 ∷ 3 ∷ 4 ∷ 5 ∷ 7 ∷ 8 ∷ 6 ∷ 9 ∷ 10 ∷ []
+order (unwrap_command side header field room) = 1 ∷ 2 ∷ 3 ∷ 4 ∷ 5 ∷ 7 ∷ 8 ∷ 6 ∷ 9 ∷ 10 ∷ []
 order (wrap_response side m room) = 1 ∷ 2 ∷ 3 ∷ 4 ∷ 6 ∷ []
 order (unwrap_response side sw field room) = 1 ∷ 2 ∷ 13 ∷ 4 ∷ 7 ∷ 8 ∷ 6 ∷ 9 ∷ 10 ∷ []
 order (close side) = []
@@ -22,7 +22,7 @@ order (close side) = []
 -- what a call writes at the start of the caller's buffer
 abbrev pub writes : (c : Call) → Gives c → Bytes
 writes (wrap_command side m room) field = field
-writes (unwrap_command side ins p1 p2 field room) g = g.payload
+writes (unwrap_command side header field room) g = g.payload
 writes (wrap_response side m room) field = field
 writes (unwrap_response side sw field room) m = m.payload
 writes (close side) u = []

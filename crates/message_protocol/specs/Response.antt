@@ -36,7 +36,7 @@ unfoldable pub unwrap_response_checks : Session → StatusWord → ℕ → Answe
 unwrap_response_checks s sw n =
     require counts_as_open s else SessionClosed ⨾
     require is_turn Host Pending s.side s.phase else OutOfTurn ⨾
-    require ltb 0 n else Unprotected sw.sw1 sw.sw2 ⨾
+    require ltb 0 n else Unprotected sw ⨾
     require leb n max_response_field else TooLong ⨾
     gave tt
 

@@ -1,21 +1,21 @@
 -- Rules 9.1 to 9.4: the calls, and the transcript that is kept of them (also called a "book").
 -- Four logs, made from the calls' arguments and answers and the keys as given at opening, never from a session.
 -- Sessions come in only where the calls as defined are run, in the last part.
-use Rattle.std.specs.Prelude.{List, [], ◌∷◌, map, ℕ, length, get_or}
+use Rattle.std.specs.Prelude.{List, [], ◌∷◌, map, ℕ, length, get_or, Result, Ok, Err}
 use Rattle.octets.specs.Bytes.{Bytes, zeros}
 use Rattle.field_read.specs.Field.{none, read_field, covered_of}
 use Rattle.field_read.specs.declared.Objects.{Objects}
-use Rattle.field_read.specs.declared.FieldRead.{FieldRead}
-use Rattle.field_read.specs.declared.FieldRead.TheVariants.{Read, Malformed as BadField, Missing}
+use Rattle.field_read.specs.declared.FieldError.{FieldError}
 use Rattle.field_write.specs.Objects.{command_objects, response_objects}
 use Rattle.message_mac.specs.MacInput.{response_mac_input}
+use Rattle.apdu.specs.declared.Header.{Header}
 use Rattle.session.specs.Session.{closed}
 use Rattle.session_suite.specs.StoredKeys.{Keys}
 use Rattle.session.specs.declared.Side.{Side}
 use Rattle.session.specs.declared.Side.TheVariants.{Host, Card}
 use Rattle.session.specs.declared.Session.{Session}
 use Rattle.message_ciphers.specs.Ciphers.{Ciphers}
-use Rattle.message_answer.specs.Message.{CommandHeader, StatusWord, header, Command, Response, CommandGiven}
+use Rattle.message_answer.specs.Message.{CommandHeader, command_header, StatusWord, Command, Response, CommandGiven}
 use Rattle.message_permission.specs.Permission.{command_wanted, response_wanted}
 use Rattle.message_counter.specs.Counter.{command_counter, response_counter}
 use Rattle.message_answer.specs.Answer.{Answer, refused, gave, Out}
@@ -31,7 +31,7 @@ use Rattle.message_protocol.specs.Response.{card_wraps, host_unwraps}
 -- buffer
 pub data Call : Type 0 where
   wrap_command : Side → Command → ℕ → Call
-  unwrap_command : Side → (ins p1 p2 : ℕ) → Bytes → ℕ → Call
+  unwrap_command : Side → Header → Bytes → ℕ → Call
   wrap_response : Side → Response → ℕ → Call
   unwrap_response : Side → StatusWord → Bytes → ℕ → Call
   close : Side → Call
@@ -39,7 +39,7 @@ pub data Call : Type 0 where
 -- what a call gives where it is not refused
 abbrev pub Gives : Call → Type 0
 Gives (wrap_command side m room) = Bytes
-Gives (unwrap_command side ins p1 p2 field room) = CommandGiven
+Gives (unwrap_command side header field room) = CommandGiven
 Gives (wrap_response side m room) = Bytes
 Gives (unwrap_response side sw field room) = Response
 Gives (close side) = Unit {0}
@@ -78,10 +78,9 @@ module _ (C : Ciphers) (K : Keys) where
       }
 
 -- the objects of a field; of one that is not accepted, none
-abbrev pub objects_read : FieldRead → Objects
-objects_read (Read o) = o
-objects_read (BadField b) = none
-objects_read (Missing tag end) = none
+abbrev pub objects_read : Result Objects FieldError → Objects
+objects_read (Ok o) = o
+objects_read (Err e) = none
 
 abbrev pub command_read : ℕ → Bytes → Objects
 command_read ins field = objects_read (read_field (command_wanted ins) field)
@@ -91,12 +90,12 @@ response_read sw field = objects_read (read_field (response_wanted sw) field)
 
 module _ (C : Ciphers) (K : Keys) where
   -- an unwrap after a log: its input is of the bytes received
-  unfoldable pub accepted_command : ℕ → ℕ → ℕ → Bytes → CommandGiven → Log CommandHeader → Entry CommandHeader
-  accepted_command ins p1 p2 field g log =
-      let o = command_read ins field in
+  unfoldable pub accepted_command : Header → Bytes → CommandGiven → Log CommandHeader → Entry CommandHeader
+  accepted_command header field g log =
+      let o = command_read header.ins field in
       record {
-        message = record { header = header ins p1 p2 g.le; payload = g.payload };
-        input = (commands C K).input log (header_read ins p1 p2 o) (covered_of field o);
+        message = record { header = command_header header g.le; payload = g.payload };
+        input = (commands C K).input log (header_read header o) (covered_of field o);
       }
 
   unfoldable pub accepted_response : StatusWord → Bytes → Response → Log StatusWord → Entry StatusWord
@@ -107,8 +106,8 @@ module _ (C : Ciphers) (K : Keys) where
   unfoldable pub noted : Transcript → (c : Call) → Gives c → Transcript
   noted t (wrap_command side m room) field =
       record { commands = wraps (commands C K) m field t.commands; responses = t.responses }
-  noted t (unwrap_command side ins p1 p2 field room) g =
-      let e = accepted_command ins p1 p2 field g t.commands.accepted in
+  noted t (unwrap_command side header field room) g =
+      let e = accepted_command header field g t.commands.accepted in
       record { commands = accepts e t.commands; responses = t.responses }
   noted t (wrap_response side m room) field =
       record { commands = t.commands; responses = wraps (responses C K) m field t.responses }
@@ -127,14 +126,14 @@ module _ (C : Ciphers) (K : Keys) where
 -- the call made with a session
 unfoldable pub does : Ciphers → Session → (c : Call) → Out (Gives c)
 does C s (wrap_command side m room) = host_wraps C s m room
-does C s (unwrap_command side ins p1 p2 field room) = card_unwraps C s ins p1 p2 field room
+does C s (unwrap_command side header field room) = card_unwraps C s header field room
 does C s (wrap_response side m room) = card_wraps C s m room
 does C s (unwrap_response side sw field room) = host_unwraps C s sw field room
 does C s (close side) = record { answer = gave tt; next = closed s }
 
 abbrev pub side_of : Call → Side
 side_of (wrap_command side m room) = side
-side_of (unwrap_command side ins p1 p2 field room) = side
+side_of (unwrap_command side header field room) = side
 side_of (wrap_response side m room) = side
 side_of (unwrap_response side sw field room) = side
 side_of (close side) = side

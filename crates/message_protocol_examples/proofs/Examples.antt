@@ -27,6 +27,8 @@ use Rattle.field_read.specs.Field.{noted as notedObject, ended, on_object, walk,
 use Rattle.field_write.specs.Objects.{object, encrypted_data, le_object, status_word, mac_object, command_objects, response_objects, command_field, response_field}
 use Rattle.field_size.specs.Lengths.{ciphertext_length, encrypted_data_length, command_length, response_length}
 use Rattle.message_mac.specs.MacInput.{encoded_header, command_mac_input, response_mac_input}
+use Rattle.apdu.specs.Apdu.{header, status}
+use Rattle.apdu.specs.declared.Header.{Header}
 use Rattle.session_rules.specs.Valid.{keeps_phase, valid, counts_as_open}
 use Rattle.session_rules.specs.ZeroBytes.{all_zero, keys_end, keys_zero, mcvs_zero}
 use Rattle.session_turn.specs.Turn.{is_turn}
@@ -37,7 +39,7 @@ use Rattle.message_ciphers.specs.Ciphers.{Ciphers}
 use Rattle.message_ciphers.specs.Aes.{data_in}
 use Rattle.message_ciphers.specs.Toy.{toy_hash, toy_mac, xor_all, mask, toy_encrypt, toy_decrypt, toy, flat}
 use Rattle.message_ciphers.proofs.ToyLaws.{toy_laws}
-use Rattle.message_answer.specs.Message.{CommandHeader, StatusWord, Command, Response}
+use Rattle.message_answer.specs.Message.{command_header, header_of, CommandHeader, StatusWord, Command, Response}
 use Rattle.message_permission.specs.Permission.{ins_permitted, le_need, data_need, command_permitted, status_permitted, command_wanted, response_wanted}
 use Rattle.octets_numbers.specs.BigEndian.{big_endian}
 use Rattle.message_counter.specs.Counter.{command_counter, response_counter}
@@ -53,20 +55,26 @@ use Rattle.message_protocol.specs.Agreement.{Agrees, MacBreak, Excepted, AllByte
 
 -- ---- messages
 
+abbrev command : Header → Bool → Bytes → Command
+command h le d = record { header = command_header h le; payload = d }
+
+abbrev response : StatusWord → Bytes → Response
+response sw d = record { header = sw; payload = d }
+
 keys : Keys
 keys = record { enc = replicate 16 1; mac = replicate 16 2; rmac = replicate 16 3 }
 
 verify : Command
-verify = record { header = record { ins = 0x20; p1 = 0x00; p2 = 0x98; le = false }; payload = 0x36 ∷ 0x35 ∷ 0x31 ∷ [] }
+verify = command (header 0x20 0x00 0x98) false (0x36 ∷ 0x35 ∷ 0x31 ∷ [])
 
 get_data : Command
-get_data = record { header = record { ins = 0xCB; p1 = 0x3F; p2 = 0xFF; le = true }; payload = 0x5C ∷ 0x03 ∷ [] }
+get_data = command (header 0xCB 0x3F 0xFF) true (0x5C ∷ 0x03 ∷ [])
 
 okay : Response
-okay = record { header = record { sw1 = 0x90; sw2 = 0x00 }; payload = [] }
+okay = response (status 0x90 0x00) []
 
 certificate : Response
-certificate = record { header = record { sw1 = 0x90; sw2 = 0x00 }; payload = replicate 130 7 }
+certificate = response (status 0x90 0x00) (replicate 130 7)
 
 -- ---- runs
 
@@ -75,13 +83,13 @@ field_of (refused r) = []
 field_of (gave field) = field
 
 begin : State
-begin = start (opening Host 2 keys).session (opening Card 2 keys).session
+begin = start (opening Host 2 keys).next (opening Card 2 keys).next
 
 -- the calls of one honest exchange from this state
 exchange : Ciphers → State → Command → Response → List Call
 exchange C st m r =
     let c1 = wrap_command Host m 3000 in
-    let c2 = unwrap_command Card m.header.ins m.header.p1 m.header.p2 (field_of (host_wraps C st.host m 3000).answer) 3000 in
+    let c2 = unwrap_command Card (header_of m.header) (field_of (host_wraps C st.host m 3000).answer) 3000 in
     let st2 = run C keys st (c1 ∷ c2 ∷ []) in
     c1 ∷ c2 ∷ wrap_response Card r 20000 ∷ unwrap_response Host r.header (field_of (card_wraps C st2.card r 20000).answer) 20000 ∷ []
 
@@ -90,7 +98,7 @@ two C = let first = exchange C begin verify okay in first ++ exchange C (run C k
 
 -- with a response short enough to be written out
 one_byte : Response
-one_byte = record { header = record { sw1 = 0x90; sw2 = 0x00 }; payload = 0x07 ∷ [] }
+one_byte = response (status 0x90 0x00) (0x07 ∷ [])
 
 short : Ciphers → List Call
 short C = let first = exchange C begin verify one_byte in first ++ exchange C (run C keys begin first) get_data one_byte
@@ -150,27 +158,27 @@ forged : Command → Bytes
 forged m = command_field (toy_encrypt keys.enc (command_counter 1) m.payload) m.header.le (zeros 8)
 
 received_as : Command → Command → Call
-received_as m n = unwrap_command Card n.header.ins n.header.p1 n.header.p2 (forged m) 3000
+received_as m n = unwrap_command Card (header_of n.header) (forged m) 3000
 
 -- VERIFY with another INS, P1 and P2, and with other data
 other_ins : Command
-other_ins = record { header = record { ins = 0x24; p1 = 0x00; p2 = 0x98; le = false }; payload = verify.payload }
+other_ins = command (header 0x24 0x00 0x98) false verify.payload
 
 other_p1 : Command
-other_p1 = record { header = record { ins = 0x20; p1 = 0xFF; p2 = 0x98; le = false }; payload = verify.payload }
+other_p1 = command (header 0x20 0xFF 0x98) false verify.payload
 
 other_header : Command
-other_header = record { header = record { ins = 0x20; p1 = 0x00; p2 = 0x80; le = false }; payload = 0x36 ∷ 0x35 ∷ 0x31 ∷ [] }
+other_header = command (header 0x20 0x00 0x80) false (0x36 ∷ 0x35 ∷ 0x31 ∷ [])
 
 other_data : Command
-other_data = record { header = record { ins = 0x20; p1 = 0x00; p2 = 0x98; le = false }; payload = 0x36 ∷ 0x35 ∷ 0x32 ∷ [] }
+other_data = command (header 0x20 0x00 0x98) false (0x36 ∷ 0x35 ∷ 0x32 ∷ [])
 
 -- GENERAL AUTHENTICATE without Le, and with it
 authenticate : Command
-authenticate = record { header = record { ins = 0x87; p1 = 0x07; p2 = 0x9E; le = false }; payload = 0x7C ∷ [] }
+authenticate = command (header 0x87 0x07 0x9E) false (0x7C ∷ [])
 
 with_le : Command
-with_le = record { header = record { ins = 0x87; p1 = 0x07; p2 = 0x9E; le = true }; payload = 0x7C ∷ [] }
+with_le = command (header 0x87 0x07 0x9E) true (0x7C ∷ [])
 
 more_commands : List Call
 more_commands = received_as verify verify ∷ []
@@ -196,12 +204,12 @@ le_changed = wrap_command Host authenticate 3000 ∷ received_as with_le authent
 status_changed : List Call
 status_changed =
     wrap_command Host verify 3000 ∷ received_as verify verify ∷ wrap_response Card okay 3000
-    ∷ unwrap_response Host (record { sw1 = 0x6A; sw2 = 0x82 }) (response_field [] 0x6A 0x82 (zeros 8)) 3000 ∷ []
+    ∷ unwrap_response Host (status 0x6A 0x82) (response_field [] 0x6A 0x82 (zeros 8)) 3000 ∷ []
 
 sw2_changed : List Call
 sw2_changed =
     wrap_command Host verify 3000 ∷ received_as verify verify ∷ wrap_response Card okay 3000
-    ∷ unwrap_response Host (record { sw1 = 0x90; sw2 = 0x0C }) (response_field [] 0x90 0x0C (zeros 8)) 3000 ∷ []
+    ∷ unwrap_response Host (status 0x90 0x0C) (response_field [] 0x90 0x0C (zeros 8)) 3000 ∷ []
 
 -- one command wrapped, and no more
 one_wrapped : List Call
@@ -212,11 +220,11 @@ never_wrapped : List Call
 never_wrapped =
     let c = toy_encrypt keys.enc (command_counter 1) verify.payload in
     let full = toy_mac keys.mac (command_input (zeros 16) verify.header (command_objects c false)) in
-    unwrap_command Card 0x20 0x00 0x98 (command_field c false (take 8 full)) 3000 ∷ []
+    unwrap_command Card (header 0x20 0x00 0x98) (command_field c false (take 8 full)) 3000 ∷ []
 
 -- a VERIFY without data, accepted twice: under the constant MAC the second input is the first
 check : Command
-check = record { header = record { ins = 0x20; p1 = 0x00; p2 = 0x98; le = false }; payload = [] }
+check = command (header 0x20 0x00 0x98) false []
 
 repeated : List Call
 repeated = wrap_command Host check 3000 ∷ received_as check check ∷ wrap_response Card okay 3000 ∷ received_as check check ∷ []
@@ -225,7 +233,7 @@ repeated = wrap_command Host check 3000 ∷ received_as check check ∷ wrap_res
 mac_changed : List Call
 mac_changed =
     wrap_command Host check 3000
-    ∷ unwrap_command Card 0x20 0x00 0x98 (field_of (host_wraps toy begin.host check 3000).answer) 3000
+    ∷ unwrap_command Card (header 0x20 0x00 0x98) (field_of (host_wraps toy begin.host check 3000).answer) 3000
     ∷ wrap_response Card okay 3000
     ∷ unwrap_response Host okay.header (response_field [] 0x90 0x00 (zeros 8)) 3000 ∷ []
 
@@ -252,7 +260,7 @@ are_bytes [] e = bytes_nil
 are_bytes (b ∷ bs) e = let h = both (ltb b 256) (all_bytes bs) e in bytes_cons b bs (ltb-true b 256 h.0) (are_bytes bs h.1)
 
 one_byte_read : Response
-one_byte_read = record { header = okay.header; payload = 0x08 ∷ [] }
+one_byte_read = response okay.header (0x08 ∷ [])
 
 -- a byte for another, with the constant MAC
 response_data_changed : List Call

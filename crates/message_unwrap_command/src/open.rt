@@ -8,11 +8,14 @@ ghost use Rattle.message_result.specs.Results.{command_result};
 ghost use Rattle.message_verify.specs.VerifiedText.{received, WellSized};
 ghost use Rattle.message_unwrap_command.specs.UnwrapCommand.{open_command, open_objects, payload_of};
 
+use apdu::Header;
 use field_read::Objects;
 use message_counter::command_counter;
+use message_key::SessionKey;
 use message_mac::command_mac;
-use message_result::{CommandAnswer, CommandResult, refused_command};
-use message_verify::{Verified, verified_text};
+use message_result::{AcceptedCommand, refused};
+use message_verify::verified_text;
+use refusal::Answered;
 use session::Session;
 use session_turn::command_taken;
 
@@ -25,7 +28,7 @@ fn open_command(
     mac: &[u8],
     ciphertext: &[u8],
     out: &mut [u8],
-) -> CommandResult
+) -> Answered<AcceptedCommand, Session>
     requires { (session.count < command_limit) × WellSized (received mac.now ciphertext.now) }
     ensures result { result ≡ command_result (concluded session (open_command session le full
         (received mac.now ciphertext.now) (length out.old))) }
@@ -33,53 +36,47 @@ fn open_command(
         (open_command session le full (received mac.now ciphertext.now)
         (length out.old))).answer }
 {
-    let suite = session.suite;
-    let sk_enc = session.sk_enc;
+    let Session { suite, sk_enc, .. } = session;
+    let key = SessionKey {
+        suite,
+        bytes: sk_enc,
+    };
     let counter = command_counter(session.count + 1);
-    let text = verified_text(suite, sk_enc, counter, full, mac, ciphertext, out);
-    match text {
-        Verified::Data(n) => {
-            let next = command_taken(session, full);
-            CommandResult {
-                answer: CommandAnswer::Accepted(n, le),
-                session: next,
-            }
-        }
-        Verified::Refused(refusal) => refused_command(session, refusal),
+    match verified_text(key, counter, full, mac, ciphertext, out) {
+        Ok(len) => Answered {
+            answer: Ok(AcceptedCommand { len, le }),
+            next: command_taken(session, full),
+        },
+        Err(refusal) => refused(session, refusal),
     }
 }
 
 // Opens a field whose objects are these: its MAC covers the bytes before '8E'.
 pub fn open_objects(
     session: Session,
-    ins: u8,
-    p1: u8,
-    p2: u8,
+    header: Header,
     field: &[u8],
     objects: Objects,
     out: &mut [u8],
-) -> CommandResult
-    requires { (session.count < command_limit) × Conforms (command_wanted ins) field.now objects }
-    ensures result { result ≡ command_result (concluded session (open_objects session ins p1 p2
+) -> Answered<AcceptedCommand, Session>
+    requires { (session.count < command_limit) × Conforms (command_wanted header.ins) field.now objects }
+    ensures result { result ≡ command_result (concluded session (open_objects session header
         field.now (length out.old) objects)) }
     ensures output { out.new ≡ buffer payload_of out.old (concluded session
-        (open_objects session ins p1 p2 field.now (length out.old) objects)).answer }
+        (open_objects session header field.now (length out.old) objects)).answer }
 {
-    let suite = session.suite;
-    let sk_mac = session.sk_mac;
-    let mcv = session.command_mcv;
-    let covered = objects.mac_start;
-    let mac = objects.mac;
-    let mac_end = mac + 8;
-    let start = objects.ciphertext;
-    let end = start + objects.ciphertext_len;
-    let full = command_mac(suite, sk_mac, mcv, ins, p1, p2, &field[..covered]);
-    open_command(
-        session,
-        objects.second,
-        full,
-        &field[mac..mac_end],
-        &field[start..end],
-        out,
-    )
+    let Session { suite, sk_mac, .. } = session;
+    let key = SessionKey {
+        suite,
+        bytes: sk_mac,
+    };
+    let full = command_mac(
+        key,
+        session.command_mcv,
+        header,
+        &field[..objects.mac_start],
+    );
+    let mac = &field[objects.mac..objects.mac + 8];
+    let ciphertext = &field[objects.ciphertext..objects.ciphertext + objects.ciphertext_len];
+    open_command(session, objects.second, full, mac, ciphertext, out)
 }

@@ -1,6 +1,6 @@
 -- The ciphertext in memory, decrypted in place, has the data of the message at its start; and what is then written out.
 use mathlib.Core.Path.{◌≡◌, refl, sym, ap, ap₂, ◌∙◌}
-use mathlib.Core.Option.{Option, none, some}
+use Rattle.std.specs.Prelude.{Option, None, Some}
 use Prim.Native.Nat.{ℕ, ◌<◌, ◌≤◌}
 use native.Mathlib.Nat.{zero-add}
 use native.Mathlib.Omega.{arith}
@@ -11,8 +11,6 @@ use Rattle.octets.specs.Bytes.{Bytes}
 use Rattle.octets.specs.Write.{over, Wrote}
 use Rattle.octets.proofs.Writing.{wrote_start}
 use Rattle.field_padding.specs.Padding.{unpad}
-use Rattle.field_padding.specs.declared.Unpadded.{Unpadded}
-use Rattle.field_padding.specs.declared.Unpadded.TheVariants.{Data, BadPadding}
 use Rattle.field_padding.proofs.Unpadding.{data_short}
 use Rattle.aes_key_expansion.specs.KeyExpansion.{schedule}
 use Rattle.aes.specs.Aes.{ciph as scheduleCiph, inv_ciph as scheduleInvCiph}
@@ -31,15 +29,15 @@ data_at_start : (text padded : Bytes) (n : ℕ) → take n text ≡ padded → l
 unfolding data_in
 data_at_start text padded n s l = go (unpad padded) refl
   where
-    go : (r : Unpadded) → unpad padded ≡ r → Decrypted text n r (data_in padded r)
-    go (Data k) e =
+    go : (r : Option ℕ) → unpad padded ≡ r → Decrypted text n r (data_in padded r)
+    go (Some k) e =
         let h : k ≤ n = omega (arith, data_short padded k e, l) in
-        record { is = ap some (sym (take-take k n text h) ∙ ap (take k) s); within = h }
-    go BadPadding e = record { is = refl; within = omega arith }
+        record { is = ap Some (sym (take-take k n text h) ∙ ap (take k) s); within = h }
+    go None e = record { is = refl; within = omega arith }
 
 module _ (suite : Suite) (key counter ct : Bytes) (h : length key ≡ 32) where
   -- no bytes are the encrypted form of no data
-  pub no_blocks : (text : Bytes) → length ct ≡ 0 → Decrypted text (length ct) (Data 0) (decrypt (key_in suite key) counter ct)
+  pub no_blocks : (text : Bytes) → length ct ≡ 0 → Decrypted text (length ct) (Some 0) (decrypt (key_in suite key) counter ct)
   unfolding decrypt data_in
   no_blocks text e = record { is = rw (eq-eqb (length ct) 0 e); within = omega arith }
 
@@ -57,7 +55,7 @@ module _ (suite : Suite) (key counter ct : Bytes) (h : length key ≡ 32) where
       (sym (same_cipher suite key h)) (sym (same_inv_cipher suite key h)))
 
   -- copied, decrypted in place, and unpadded
-  pub in_memory : 0 < length ct → (held copied text : Bytes) (n : ℕ) (r : Unpadded) → Wrote held 0 ct n copied
+  pub in_memory : 0 < length ct → (held copied text : Bytes) (n : ℕ) (r : Option ℕ) → Wrote held 0 ct n copied
       → text ≡ over copied (cbc_decrypt d (c counter) (take n copied)) → length (cbc_decrypt d (c counter) (take n copied)) ≡ n
       → r ≡ unpad (take n text) → Decrypted text (length ct) r (decrypt (key_in suite key) counter ct)
   unfolding over
@@ -72,37 +70,17 @@ module _ (suite : Suite) (key counter ct : Bytes) (h : length key ≡ 32) where
 
 -- ---- written out
 
-pub data_within : (text : Bytes) (n m : ℕ) (r : Unpadded) (d : Option Bytes) → Decrypted text n r d → r ≡ Data m → m ≤ n
+pub data_within : (text : Bytes) (n m : ℕ) (r : Option ℕ) (d : Option Bytes) → Decrypted text n r d → r ≡ Some m → m ≤ n
 data_within text n m r d k e = rw (ap data_length e) at k.within
 
-pub nothing_out : (text held : Bytes) (n : ℕ) (r : Unpadded) (d : Option Bytes) → Decrypted text n r d → r ≡ BadPadding
-    → (BadPadding ≡ unpadded d) × (held ≡ buffer (λ (x : Bytes). x) held (text_of d))
+pub nothing_out : (text held : Bytes) (n : ℕ) (r : Option ℕ) (d : Option Bytes) → Decrypted text n r d → r ≡ None
+    → (◌≡◌ {A = Option ℕ} None (unpadded d)) × (held ≡ buffer (λ (x : Bytes). x) held (text_of d))
 unfolding data_in text_of buffer
-nothing_out text held n r d k e = let q : d ≡ none = sym k.is ∙ ap (data_in text) e in rw q (refl, refl)
+nothing_out text held n r d k e = let q : d ≡ None = sym k.is ∙ ap (data_in text) e in rw q (refl, refl)
 
-pub data_out : (text held out : Bytes) (n m : ℕ) (r : Unpadded) (d : Option Bytes) → Decrypted text n r d → n ≤ length text → (e : r ≡ Data m)
-    → out ≡ over held (take m text) → (Data m ≡ unpadded d) × (out ≡ buffer (λ (x : Bytes). x) held (text_of d))
+pub data_out : (text held out : Bytes) (n m : ℕ) (r : Option ℕ) (d : Option Bytes) → Decrypted text n r d → n ≤ length text → (e : r ≡ Some m)
+    → out ≡ over held (take m text) → (◌≡◌ {A = Option ℕ} (Some m) (unpadded d)) × (out ≡ buffer (λ (x : Bytes). x) held (text_of d))
 unfolding data_in text_of buffer
 data_out text held out n m r d k h e o =
-    let q : d ≡ some (take m text) = sym k.is ∙ ap (data_in text) e in
-    rw q (ap Data (sym (length-take-le m text (omega (arith, data_within text n m r d k e)))), o)
-
--- ---- what a caller learns
-
-no_data : {n : ℕ} {P : Type 0} → BadPadding ≡ Data n → P
-no_data e = let z : ◌≡◌ {A = ℕ} 0 1 = cc in let o : ⊥ = omega arith in absurd o
-
-some_data : {n : ℕ} {P : Type 0} → Data n ≡ BadPadding → P
-some_data e = let z : ◌≡◌ {A = ℕ} 0 1 = cc in let o : ⊥ = omega arith in absurd o
-
-pub found_none : (d : Option Bytes) (held out : Bytes) → unpadded d ≡ BadPadding → out ≡ buffer (λ (x : Bytes). x) held (text_of d)
-    → (d ≡ none) × (out ≡ held)
-unfolding buffer text_of
-found_none (some x) held out e o = some_data e
-found_none none held out e o = (refl, o)
-
-pub found_data : (d : Option Bytes) (held out : Bytes) (n : ℕ) → unpadded d ≡ Data n → out ≡ buffer (λ (x : Bytes). x) held (text_of d)
-    → (x : Bytes) × (d ≡ some x) × (n ≡ length x) × (out ≡ over held x)
-unfolding buffer text_of
-found_data (some x) held out n e o = (x, refl, cc, o)
-found_data none held out n e o = no_data e
+    let q : d ≡ Some (take m text) = sym k.is ∙ ap (data_in text) e in
+    rw q (ap Some (sym (length-take-le m text (omega (arith, data_within text n m r d k e)))), o)

@@ -9,12 +9,12 @@ use Rattle.refusal.specs.declared.Refusal.{Refusal}
 use Rattle.session.specs.declared.Session.{Session}
 use Rattle.message_answer.specs.Answer.{Answer, refused, gave, ◌and_then◌, Outcome, Out, not_given, given, concluded, buffer}
 use Rattle.message_verify.specs.VerifiedText.{verified}
-use Rattle.message_verify.specs.declared.Verified.TheVariants.{Data, Refused}
+use Rattle.std.specs.Prelude.{Result, Ok, Err}
 
-no_data : {r : Refusal} {n : ℕ} {P : Type 0} → Refused r ≡ Data n → P
+no_data : {r : Refusal} {n : ℕ} {P : Type 0} → ◌≡◌ {A = Result ℕ Refusal} (Err r) (Ok n) → P
 no_data e = let z : ◌≡◌ {A = ℕ} 0 1 = cc in let o : ⊥ = omega arith in absurd o
 
-no_refusal : {r : Refusal} {n : ℕ} {P : Type 0} → Data n ≡ Refused r → P
+no_refusal : {r : Refusal} {n : ℕ} {P : Type 0} → ◌≡◌ {A = Result ℕ Refusal} (Ok n) (Err r) → P
 no_refusal e = let z : ◌≡◌ {A = ℕ} 0 1 = cc in let o : ⊥ = omega arith in absurd o
 
 module _ {G R : Type 0} (s : Session) (f : Out G → R) (writes : G → Bytes) (accepted : Bytes → Outcome G) (held out : Bytes) (result : R) where
@@ -23,12 +23,12 @@ module _ {G R : Type 0} (s : Session) (f : Out G → R) (writes : G → Bytes) (
       (result ≡ f (concluded s (t and_then (λ d. gave (accepted d)))))
       × (out ≡ buffer writes held (concluded s (t and_then (λ d. gave (accepted d)))).answer)
 
-  pub opens_refused : (t : Answer Bytes) (r : Refusal) → verified t ≡ Refused r → out ≡ buffer (λ (d : Bytes). d) held t → result ≡ f (not_given s r) → Opens t
+  pub opens_refused : (t : Answer Bytes) (r : Refusal) → verified t ≡ Err r → out ≡ buffer (λ (d : Bytes). d) held t → result ≡ f (not_given s r) → Opens t
   unfolding ◌and_then◌ concluded buffer
   opens_refused (refused q) r e o p = let z : r ≡ q = cc in (p ∙ ap (λ (x : Refusal). f (not_given s x)) z, o)
   opens_refused (gave d) r e o p = no_refusal e
 
-  pub opens_data : (t : Answer Bytes) (n : ℕ) → verified t ≡ Data n → out ≡ buffer (λ (d : Bytes). d) held t
+  pub opens_data : (t : Answer Bytes) (n : ℕ) → verified t ≡ Ok n → out ≡ buffer (λ (d : Bytes). d) held t
       → ((d : Bytes) → writes (accepted d).gives ≡ d) → ((d : Bytes) → n ≡ length d → result ≡ f (given (accepted d))) → Opens t
   unfolding ◌and_then◌ concluded buffer
   opens_data (refused q) n e o w p = no_data e

@@ -1,16 +1,15 @@
 -- Rules 2.5 and 6.4: the stages of an unwrap after the reading, which are the same for a command and a response: room, MAC, text.
-use Rattle.std.specs.Prelude.{◌≡◌, ℕ, ◌%◌, ◌≤◌, leb, length, take}
+use Rattle.std.specs.Prelude.{◌≡◌, ℕ, ◌%◌, ◌≤◌, leb, length, take, Result, Ok, Err}
 use Rattle.octets.specs.Bytes.{Bytes}
 use Rattle.field_read.specs.Field.{ciphertext_of, mac_of}
 use Rattle.field_read.specs.declared.Objects.{Objects}
+use Rattle.refusal.specs.declared.Refusal.{Refusal}
 use Rattle.refusal.specs.declared.Refusal.TheVariants.{BufferTooSmall, BadMac}
 use Rattle.message_answer.specs.Message.{max_response_ciphertext}
 use Rattle.message_answer.specs.Answer.{Answer, refused, gave, require◌else◌⨾◌}
 use Rattle.message_ciphers.specs.Ciphers.{Ciphers}
 use Rattle.message_mac.specs.Same.{same}
 use Rattle.message_verify.specs.Reading.{text_of}
-use Rattle.message_verify.specs.declared.Verified.{Verified}
-use Rattle.message_verify.specs.declared.Verified.TheVariants.{Data, Refused}
 
 -- what was received of a message: the eight bytes in '8E', and the ciphertext in '87'
 pub record Received : Type 0 where
@@ -37,6 +36,7 @@ verified_text C key counter full r room =
     require same r.mac (take 8 full) else BadMac ⨾
     text_of (C.decrypt key counter r.ciphertext)
 
-abbrev pub verified : Answer Bytes → Verified
-verified (refused r) = Refused r
-verified (gave d) = Data (length d)
+-- the data's length, or the refusal
+abbrev pub verified : Answer Bytes → Result ℕ Refusal
+verified (refused r) = Err r
+verified (gave d) = Ok (length d)

@@ -11,45 +11,34 @@ ghost use Rattle.message_ciphers.specs.Aes.{aes_ciphers};
 ghost use Rattle.message_verify.specs.VerifiedText.{received, WellSized, verified, verified_text};
 
 use decrypt::decrypt_text;
-use field_padding::Unpadded;
+use message_key::SessionKey;
 use message_mac::{mac_matches, truncated};
 use refusal::Refusal;
-use session_suite::Suite;
 
-#[derive(Clone, Copy)]
-pub enum Verified {
-    // The length of the data that stands in the caller's buffer.
-    Data(usize),
-    Refused(Refusal),
-}
-
-// Checks the room, the MAC and the padding, and writes the data. `full` is the MAC that was computed, `mac` the eight bytes that were received.
+// Checks the room, the MAC and the padding, and writes the data, whose length it gives. `full` is the MAC that was computed, `mac` the eight bytes
+// that were received.
 pub fn verified_text(
-    suite: Suite,
-    sk_enc: [u8; 32],
+    key: SessionKey,
     counter: [u8; 16],
     full: [u8; 16],
     mac: &[u8],
     ciphertext: &[u8],
     out: &mut [u8],
-) -> Verified
+) -> Result<usize, Refusal>
     requires { WellSized (received mac.now ciphertext.now) }
-    ensures answer { result ≡ verified (verified_text aes_ciphers (key_in suite sk_enc) counter full
+    ensures answer { result ≡ verified (verified_text aes_ciphers (key_in key.suite key.bytes) counter full
         (received mac.now ciphertext.now) (length out.old)) }
     ensures output { out.new ≡ buffer (λ d. d) out.old
-        (verified_text aes_ciphers (key_in suite sk_enc) counter full
+        (verified_text aes_ciphers (key_in key.suite key.bytes) counter full
         (received mac.now ciphertext.now) (length out.old)) }
 {
     let needed = ciphertext.len();
     if needed > out.len() {
-        return Verified::Refused(Refusal::BufferTooSmall(needed));
+        return Err(Refusal::BufferTooSmall(needed));
     }
     if !mac_matches(mac, truncated(full)) {
-        return Verified::Refused(Refusal::BadMac);
+        return Err(Refusal::BadMac);
     }
-    let text = decrypt_text(suite, sk_enc, counter, ciphertext, out);
-    let Unpadded::Data(n) = text else {
-        return Verified::Refused(Refusal::BadPadding);
-    };
-    Verified::Data(n)
+    let text = decrypt_text(key, counter, ciphertext, out);
+    text.ok_or(Refusal::BadPadding)
 }

@@ -1,11 +1,12 @@
 -- The host's wrap with AES, by the function's own parameters. Assumes nothing.
 use Rattle.std.specs.Prelude.{Bool, ℕ}
 use Rattle.octets.specs.Bytes.{Bytes}
+use Rattle.apdu.specs.declared.Header.{Header}
 use Rattle.session.specs.declared.Session.{Session}
 use Rattle.message_ciphers.specs.Aes.{aes_ciphers}
-use Rattle.message_answer.specs.Message.{header}
+use Rattle.message_answer.specs.Message.{command_header}
 use Rattle.message_answer.specs.Answer.{Out}
 use Rattle.message_protocol.specs.Command.{host_wraps}
 
-abbrev pub wrap_command : Session → ℕ → ℕ → ℕ → Bool → Bytes → ℕ → Out Bytes
-wrap_command s ins p1 p2 le d room = host_wraps aes_ciphers s (record { header = header ins p1 p2 le; payload = d }) room
+abbrev pub wrap_command : Session → Header → Bool → Bytes → ℕ → Out Bytes
+wrap_command s header le d room = host_wraps aes_ciphers s (record { header = command_header header le; payload = d }) room

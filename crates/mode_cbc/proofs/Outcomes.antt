@@ -4,30 +4,33 @@ use mathlib.Core.Bool.{Bool, true, false}
 use Prim.Native.Nat.{ℕ}
 use native.Mathlib.Omega.{arith}
 use Rattle.octets.specs.Bytes.{Bytes}
-use Rattle.std.specs.Prelude.{if◌then◌else◌}
+use Rattle.std.specs.Prelude.{if◌then◌else◌, Result, Ok, Err}
 use Rattle.mode_cbc.specs.Whole.{whole, outcome, if_whole}
-use Rattle.mode_cbc.specs.declared.Outcome.TheVariants.{Done, PartialBlock}
+use Rattle.mode_cbc.specs.declared.PartialBlock.{PartialBlock}
 
-told : (t : Bool) → (if t then Done else PartialBlock) ≡ Done → t ≡ true
-told true e = refl
-told false e = let z : ◌≡◌ {A = ℕ} 0 1 = cc in let n : ⊥ = omega arith in absurd n
+abbrev told : Bool → Result (Unit {0}) PartialBlock
+told t = if t then Ok tt else Err (record {})
 
-denied : (t : Bool) → (if t then Done else PartialBlock) ≡ PartialBlock → t ≡ false
-denied true e = let z : ◌≡◌ {A = ℕ} 0 1 = cc in let n : ⊥ = omega arith in absurd n
-denied false e = refl
+when_ok : (t : Bool) {u : Unit {0}} → told t ≡ Ok u → t ≡ true
+when_ok true e = refl
+when_ok false e = let z : ◌≡◌ {A = ℕ} 0 1 = cc in let n : ⊥ = omega arith in absurd n
 
-pub done_whole : (xs : Bytes) → outcome xs ≡ Done → whole xs ≡ true
+when_err : (t : Bool) {b : PartialBlock} → told t ≡ Err b → t ≡ false
+when_err true e = let z : ◌≡◌ {A = ℕ} 0 1 = cc in let n : ⊥ = omega arith in absurd n
+when_err false e = refl
+
+pub done_whole : (xs : Bytes) {u : Unit {0}} → outcome xs ≡ Ok u → whole xs ≡ true
 unfolding outcome
-done_whole xs e = told (whole xs) e
+done_whole xs e = when_ok (whole xs) e
 
-pub partial_not_whole : (xs : Bytes) → outcome xs ≡ PartialBlock → whole xs ≡ false
+pub partial_not_whole : (xs : Bytes) {b : PartialBlock} → outcome xs ≡ Err b → whole xs ≡ false
 unfolding outcome
-partial_not_whole xs e = denied (whole xs) e
+partial_not_whole xs e = when_err (whole xs) e
 
-pub done_changed : (f : Bytes → Bytes) (xs : Bytes) → outcome xs ≡ Done → if_whole f xs ≡ f xs
+pub done_changed : (f : Bytes → Bytes) (xs : Bytes) {u : Unit {0}} → outcome xs ≡ Ok u → if_whole f xs ≡ f xs
 unfolding if_whole
 done_changed f xs e = simp (done_whole xs e)
 
-pub partial_kept : (f : Bytes → Bytes) (xs : Bytes) → outcome xs ≡ PartialBlock → if_whole f xs ≡ xs
+pub partial_kept : (f : Bytes → Bytes) (xs : Bytes) {b : PartialBlock} → outcome xs ≡ Err b → if_whole f xs ≡ xs
 unfolding if_whole
 partial_kept f xs e = simp (partial_not_whole xs e)

@@ -2,19 +2,18 @@
 use mathlib.Core.Path.{◌≡◌, refl, sym, ap, ap₂, ◌∙◌}
 use mathlib.Core.Bool.{Bool, true, false}
 use mathlib.Core.List.{[], ◌∷◌, ◌++◌, append_assoc, append-nil}
-use Prim.Native.Nat.{ℕ, ◌+◌, ◌≤◌, ◌<◌}
+use Prim.Native.Nat.{ℕ, ◌+◌, ◌%◌, ◌≤◌, ◌<◌}
 use native.Mathlib.Nat.{add-zero, zero-add}
-use native.Mathlib.Numerals.{add-one}
 use native.Mathlib.Omega.{arith}
 use borrow.Author.Tests.{leb-false, lt-leb}
 use lib.Dec.{leb}
-use lib.ListN.{length, take, drop, get_or, set, length-append, length-drop, take-append-drop, drop_of_length-le}
-use lib.Seq.{set_at, get_or_at, drop-cons, drop-drop, length-take-le}
+use lib.ListN.{length, drop, set, length-append, drop_of_length-le}
+use lib.Seq.{set_at, get_or_at}
 use Rattle.octets.specs.Bytes.{Bytes, ◌⊕◌, ◌xor◌}
 use Rattle.octets.proofs.XorBytes.{xor_nil}
 use Rattle.mode_cmac.specs.declared.Cmac.{Cmac}
 use Rattle.mode_cmac.specs.Subkeys.{Cipher}
-use Rattle.mode_cmac.specs.Running.{flush, add, absorb, Absorbed}
+use Rattle.mode_cmac.specs.Running.{flush, add, absorb}
 
 -- the state with chain x and n bytes in the current block
 abbrev pub state : Bytes → ℕ → Cmac
@@ -83,31 +82,22 @@ module _ (ciph : Cipher) where
   absorb_flush s (x ∷ b) h =
       ap (λ (t : Cmac). absorb ciph (add t x) b) (flush_partial (flush ciph s).chain (flush ciph s).len (flush_open s))
 
-  -- ---- a step over the bytes of m from index at on, after flush gave t
+  begins_by_test : (s : Cmac) (full : Bool) → leb 16 s.len ≡ full → s.len % 16 ≡ 0 → (flush ciph s).len ≡ 0
+  unfolding flush
+  begins_by_test s true e h = rw e refl
+  begins_by_test s false e h = rw e (omega (arith, leb-false 16 s.len e, h))
 
-  pub step_block : (s t : Cmac) (m c : Bytes) (at : ℕ) → t ≡ flush ciph s → length t.chain ≡ 16 → t.len ≡ 0
-      → at + 16 ≤ length m → c ≡ t.chain xor take 16 (drop at m) → Absorbed ciph s m at (state c 16) (at + 16)
-  step_block s t m c at f l z h e =
-      let b : Bytes = take 16 (drop at m) in
-      let rest : Bytes = drop (at + 16) m in
-      let split : b ++ rest ≡ drop at m = ap (λ (r : Bytes). b ++ r) (sym (drop-drop 16 at m)) ∙ take-append-drop 16 (drop at m) in
-      record {
-        more = omega arith;
-        within = h;
-        rest = ap (λ (x : Bytes). absorb ciph (state x 16) rest) e
-            ∙ sym (absorb_block t.chain b rest l (length-take-le 16 (drop at m) (simp length-drop (omega arith))))
-            ∙ ap (λ (n : ℕ). absorb ciph (state t.chain n) (b ++ rest)) (sym z)
-            ∙ ap₂ (absorb ciph) f split
-            ∙ absorb_flush s (drop at m) (simp length-drop (omega arith));
-      }
+  -- a block begins after none, and after a full one
+  pub flush_begins : (s : Cmac) → s.len % 16 ≡ 0 → (flush ciph s).len ≡ 0
+  flush_begins s = begins_by_test s (leb 16 s.len) refl
 
-  pub step_byte : (s t u : Cmac) (m : Bytes) (at : ℕ) → t ≡ flush ciph s → at < length m → u ≡ add t (get_or m at 0)
-      → Absorbed ciph s m at u (at + 1)
+  -- a whole block b after flush gave t
+  pub whole_block : (s t : Cmac) (b c : Bytes) → t ≡ flush ciph s → length t.chain ≡ 16 → t.len ≡ 0 → length b ≡ 16
+      → c ≡ t.chain xor b → state c 16 ≡ absorb ciph s b
   unfolding absorb
-  step_byte s t u m at f h e =
-      record {
-        more = omega arith;
-        within = omega arith;
-        rest = ap₂ (absorb ciph) (e ∙ ap (λ (x : Cmac). add x (get_or m at 0)) f) (ap (λ (n : ℕ). drop n m) (add-one at))
-            ∙ ap (absorb ciph s) (sym (drop-cons m at 0 h));
-      }
+  whole_block s t b c f l z h e =
+      ap (λ (x : Bytes). state x 16) e
+      ∙ sym (absorb_block t.chain b [] l h)
+      ∙ ap₂ (λ (n : ℕ) (m : Bytes). absorb ciph (state t.chain n) m) (sym z) (append-nil b)
+      ∙ ap (λ (u : Cmac). absorb ciph u b) f
+      ∙ absorb_flush s b (omega arith)

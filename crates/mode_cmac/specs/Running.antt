@@ -1,6 +1,6 @@
 -- CMAC byte after byte: what `start`, `absorb` and `finish` give. That the whole is SP 800-38B's CMAC is
 -- proofs/Theorems.antt.
-use Rattle.std.specs.Prelude.{◌≡◌, [], ◌∷◌, ℕ, ◌+◌, ◌<◌, ◌≤◌, leb, length, drop, get_or, set}
+use Rattle.std.specs.Prelude.{[], ◌∷◌, ℕ, ◌+◌, leb, get_or, set}
 use Rattle.octets.specs.Bytes.{Bytes, zeros, ◌⊕◌, ◌xor◌}
 use Rattle.std.specs.Prelude.{if◌then◌else◌}
 use Rattle.mode_cmac.specs.declared.Cmac.{Cmac}
@@ -27,9 +27,3 @@ absorb ciph s (b ∷ bs) = absorb ciph (add (flush ciph s) b) bs
 unfoldable pub finish : Cipher → Cmac → Bytes
 finish ciph s =
     if leb 16 s.len then ciph (s.chain xor subkey1 ciph) else ciph ((add s 0x80).chain xor subkey2 ciph)
-
--- bytes from index at on took s to t, and the next is at index n: what is left brings t to where all of it brings s
-pub record Absorbed (ciph : Cipher) (s : Cmac) (m : Bytes) (at : ℕ) (t : Cmac) (n : ℕ) : Type 0 where
-  pub more : at < n
-  pub within : n ≤ length m
-  pub rest : absorb ciph t (drop n m) ≡ absorb ciph s (drop at m)

@@ -3,12 +3,12 @@
 
 ghost use Rattle.std.specs.Prelude.{◌≡◌, ◌<◌, length};
 ghost use Rattle.aes.specs.Aes.{ciph};
-ghost use Rattle.mode_cmac.specs.Running.{start, flush, add, absorb, finish, Absorbed};
+ghost use Rattle.mode_cmac.specs.Running.{start, flush, add, absorb, finish};
 ghost use Rattle.mode_cmac.specs.Subkeys.{shift_left, double, subkey1, subkey2};
 
 use aes::encrypt_block;
-use aes_key_expansion::KeySize;
-use octets_blocks::{block_at, xor_block};
+use aes_key_expansion::ExpandedKey;
+use octets_blocks::{array_at, xor_block};
 
 const R128: [u8; 16] = [0, 0, 0, 0, 0, 0, 0, 0, 0, 0, 0, 0, 0, 0, 0, 0x87];
 
@@ -17,10 +17,8 @@ fn shift_left(x: [u8; 16]) -> [u8; 16]
     ensures { result ≡ shift_left x }
 {
     let mut r = [0u8; 16];
-    let mut i: usize = 0;
-    while i < 15 {
+    for i in 0..15 {
         r[i] = (x[i] << 1) ^ (x[i + 1] / 128);
-        i += 1;
     }
     r[15] = x[15] << 1;
     r
@@ -31,40 +29,32 @@ fn double(x: [u8; 16]) -> [u8; 16]
     ensures { result ≡ double x }
 {
     let shifted = shift_left(x);
-    let first = x[0];
-    if first < 128 {
+    if x[0] < 128 {
         return shifted;
     }
     xor_block(shifted, R128)
 }
 
 // K1
-pub fn subkey1(size: KeySize, w: &[[u8; 4]; 60]) -> [u8; 16]
-    ensures { result ≡ subkey1 (ciph size w.now) }
+pub fn subkey1(key: &ExpandedKey) -> [u8; 16]
+    ensures { result ≡ subkey1 (ciph key.now.size key.now.words) }
 {
-    double(encrypt_block(size, w, [0u8; 16]))
+    double(encrypt_block(key, [0u8; 16]))
 }
 
 // K2
-pub fn subkey2(size: KeySize, w: &[[u8; 4]; 60]) -> [u8; 16]
-    ensures { result ≡ subkey2 (ciph size w.now) }
+pub fn subkey2(key: &ExpandedKey) -> [u8; 16]
+    ensures { result ≡ subkey2 (ciph key.now.size key.now.words) }
 {
-    double(subkey1(size, w))
+    double(subkey1(key))
 }
 
 // The state between two parts of a message: `chain` is C_(i-1) with the `len` bytes of the current block added.
-// A `len` above 16, which no call gives, is treated as 16.
+// A `len` above 16, which no call gives, is treated as 16: absorb and finish promise their equations of each len, so there is no invariant.
 #[derive(Clone, Copy)]
 pub struct Cmac {
     pub chain: [u8; 16],
     pub len: usize,
-}
-
-// The state after some bytes of a message, and the index of the next.
-#[derive(Clone, Copy)]
-struct Step {
-    state: Cmac,
-    next: usize,
 }
 
 impl Cmac {
@@ -78,14 +68,12 @@ impl Cmac {
     }
 
     // A full block is enciphered, and the next one begins.
-    fn flush(self, size: KeySize, w: &[[u8; 4]; 60]) -> Cmac
-        ensures { result ≡ flush (ciph size w.now) self }
+    fn flush(self, key: &ExpandedKey) -> Cmac
+        ensures { result ≡ flush (ciph key.now.size key.now.words) self }
     {
-        let chain = self.chain;
-        let len = self.len;
-        if 16 <= len {
+        if 16 <= self.len {
             return Cmac {
-                chain: encrypt_block(size, w, chain),
+                chain: encrypt_block(key, self.chain),
                 len: 0,
             };
         }
@@ -98,64 +86,59 @@ impl Cmac {
         ensures { result ≡ add self b }
     {
         let mut chain = self.chain;
-        let len = self.len;
-        chain[len] = chain[len] ^ b;
+        chain[self.len] ^= b;
         Cmac {
             chain,
-            len: len + 1,
+            len: self.len + 1,
         }
     }
 
-    // Absorbs a whole block where one begins and is there, else a byte.
-    fn absorb_some(self, size: KeySize, w: &[[u8; 4]; 60], data: &[u8], at: usize) -> Step
-        requires { at < length «data».now }
-        ensures { Absorbed (ciph size w.now) self «data».now at result.state result.next }
-    {
-        let flushed = self.flush(size, w);
-        let chain = flushed.chain;
-        let len = flushed.len;
-        if len == 0 {
-            if 16 <= data.len() - at {
-                return Step {
-                    state: Cmac {
-                        chain: xor_block(chain, block_at(data, at)),
-                        len: 16,
-                    },
-                    next: at + 16,
-                };
-            }
-        }
-        Step {
-            state: flushed.add(data[at]),
-            next: at + 1,
-        }
-    }
-
-    // The next part of the message.
-    pub fn absorb(self, size: KeySize, w: &[[u8; 4]; 60], data: &[u8]) -> Cmac
-        ensures { result ≡ absorb (ciph size w.now) self «data».now }
+    // Byte after byte.
+    fn absorb_bytes(self, key: &ExpandedKey, data: &[u8]) -> Cmac
+        ensures { result ≡ absorb (ciph key.now.size key.now.words) self «data».now }
     {
         let mut state = self;
-        let mut at: usize = 0;
-        while at < data.len() {
-            let step = state.absorb_some(size, w, data, at);
-            state = step.state;
-            at = step.next;
+        for b in data {
+            state = state.flush(key).add(*b);
+        }
+        state
+    }
+
+    // A whole block at once where one begins: CMAC of 16 KiB byte after byte ran at three fifths of that speed.
+    fn absorb_block(self, key: &ExpandedKey, data: &[u8]) -> Cmac
+        ensures { result ≡ absorb (ciph key.now.size key.now.words) self «data».now }
+    {
+        if self.len % 16 == 0 && data.len() == 16 {
+            let flushed = self.flush(key);
+            return Cmac {
+                chain: xor_block(flushed.chain, array_at(data, 0)),
+                len: 16,
+            };
+        }
+        self.absorb_bytes(key, data)
+    }
+
+    // The next part of the message. The current block is filled first, so that blocks begin behind it.
+    pub fn absorb(self, key: &ExpandedKey, data: &[u8]) -> Cmac
+        ensures { result ≡ absorb (ciph key.now.size key.now.words) self «data».now }
+    {
+        let room = 16 - self.len % 16;
+        let (first, rest) = data.split_at(data.len().min(room));
+        let mut state = self.absorb_block(key, first);
+        for block in rest.chunks(16) {
+            state = state.absorb_block(key, block);
         }
         state
     }
 
     // The MAC of all that was absorbed.
-    pub fn finish(self, size: KeySize, w: &[[u8; 4]; 60]) -> [u8; 16]
-        ensures { result ≡ finish (ciph size w.now) self }
+    pub fn finish(self, key: &ExpandedKey) -> [u8; 16]
+        ensures { result ≡ finish (ciph key.now.size key.now.words) self }
     {
-        let chain = self.chain;
-        let len = self.len;
-        if len < 16 {
+        if self.len < 16 {
             let padded = self.add(0x80);
-            let last = padded.chain;
-            return encrypt_block(size, w, xor_block(last, subkey2(size, w)));
+            return encrypt_block(key, xor_block(padded.chain, subkey2(key)));
         }
-        encrypt_block(size, w, xor_block(chain, subkey1(size, w)))
+        encrypt_block(key, xor_block(self.chain, subkey1(key)))
     }
 }

@@ -1,4 +1,5 @@
-// Exports the calls of c/include/pivsm.h for programs in C. Each export calls the function of its name and has its clauses.
+// Exports the calls of c/include/pivsm.h for programs in C. Each export calls the function of its name and has its clauses. The C interface names each
+// call and gives header, status word and keys one by one.
 #![tactic(auto)]
 
 mod close;

@@ -12,20 +12,21 @@ use Rattle.octets.specs.Bytes.{Bytes, zeros}
 use Rattle.octets.specs.Write.{over, Wrote}
 use Rattle.octets.proofs.Writing.{wrote_all, over_full}
 use Rattle.aes.specs.Aes.{ciph}
+use Rattle.aes_key_expansion.specs.ExpandedKey.{expanded_key}
 use Rattle.aes_key_expansion.specs.KeyExpansion.{schedule}
 use Rattle.aes_key_expansion.specs.declared.KeySize.{KeySize}
+use Rattle.aes_key_expansion.specs.declared.ExpandedKey.{ExpandedKey}
 use Rattle.mode_cbc.specs.Whole.{whole, outcome, if_whole}
-use Rattle.mode_cbc.specs.declared.Outcome.{Outcome}
-use Rattle.mode_cbc.specs.declared.Outcome.TheVariants.{Done, PartialBlock}
+use Rattle.mode_cbc.specs.declared.PartialBlock.{PartialBlock}
+use Rattle.std.specs.Prelude.{Option, Some, None, option_map, Result, Ok, Err}
 use Rattle.mode_cbc.proofs.Outcomes.{done_whole, done_changed, partial_not_whole, partial_kept}
 use Rattle.mode_cmac.specs.Cmac.{cmac}
 use Rattle.mode_cmac.specs.Running.{start, absorb, finish}
 use Rattle.mode_cmac.specs.declared.Cmac.{Cmac}
 use Rattle.mode_cmac.proofs.Theorems.{absorb_append, cmac_aes}
-use Rattle.primitives.specs.Calls.{key_size, block_long, with_key, answer, buffer}
-use Rattle.primitives.specs.declared.Key.TheVariants.{Of, BadLength}
+use Rattle.primitives.specs.Calls.{key_size, expanded, block_long, with_key, answer, buffer}
 
-pub key_fits : (n : ℕ) (size : KeySize) → key_size n ≡ Of size → n ≤ 32
+pub key_fits : (n : ℕ) (size : KeySize) → key_size n ≡ Some size → n ≤ 32
 unfolding key_size
 key_fits n size e = by (eqb n 16) refl (eqb n 32) refl
   where
@@ -33,16 +34,38 @@ key_fits n size e = by (eqb n 16) refl (eqb n 32) refl
     by true p t q = omega (arith, eqb-true n 16 p)
     by false p true q = omega (arith, eqb-true n 32 q)
     by false p false q =
-        let f : key_size n ≡ BadLength = simp (p, q) in
+        let f : key_size n ≡ None = simp (p, q) in
         let z : ◌≡◌ {A = ℕ} 0 1 = cc in
         omega arith
 
+-- ---- a key made ready, or none
+
+module _ (key : Bytes) where
+  pub no_key : expanded key ≡ None → key_size (length key) ≡ None
+  unfolding expanded
+  no_key e = go (key_size (length key)) e
+    where
+      go : (o : Option KeySize) → option_map (λ size. expanded_key size (over (zeros 32) key)) o ≡ None → o ≡ None
+      go None e = refl
+      go (Some size) e = let z : ◌≡◌ {A = ℕ} 0 1 = cc in let n : ⊥ = omega arith in absurd n
+
+  pub some_key : (k : ExpandedKey) → expanded key ≡ Some k → (key_size (length key) ≡ Some k.size) × (k.words ≡ schedule k.size (over (zeros 32) key))
+  unfolding expanded
+  some_key k e = go (key_size (length key)) e
+    where
+      go : (o : Option KeySize) → option_map (λ size. expanded_key size (over (zeros 32) key)) o ≡ Some k
+          → (o ≡ Some k.size) × (k.words ≡ schedule k.size (over (zeros 32) key))
+      go None e = let z : ◌≡◌ {A = ℕ} 0 1 = cc in let n : ⊥ = omega arith in absurd n
+      go (Some size) e =
+          let same : expanded_key size (over (zeros 32) key) ≡ k = cc in
+          (ap (λ (x : ExpandedKey). Some x.size) same, sym (ap (λ (x : ExpandedKey). x.words) same) ∙ ap (λ (x : ExpandedKey). schedule x.size (over (zeros 32) key)) same)
+
 module _ (key : Bytes) (lengths : Bool) (result : KeySize → Bytes → Bytes) (held : Bytes) where
-  pub bad_key : key_size (length key) ≡ BadLength → (12 ≡ answer key lengths) × (held ≡ buffer key lengths result held)
+  pub bad_key : key_size (length key) ≡ None → (12 ≡ answer key lengths) × (held ≡ buffer key lengths result held)
   unfolding answer buffer with_key
   bad_key e = (simp e, simp e)
 
-  module _ (size : KeySize) (e : key_size (length key) ≡ Of size) where
+  module _ (size : KeySize) (e : key_size (length key) ≡ Some size) where
     pub malformed : lengths ≡ false → (7 ≡ answer key lengths) × (held ≡ buffer key lengths result held)
     unfolding answer buffer with_key
     malformed f = (simp (e, f), simp (e, f))
@@ -58,7 +81,7 @@ replaced {xs} {ys} w h = wrote_all w ∙ over_full xs ys h
 
 -- ---- done with a key of that size, whatever the direction
 
-module _ (key block : Bytes) (size : KeySize) (e : key_size (length key) ≡ Of size) (sized : length block ≡ 16) where
+module _ (key block : Bytes) (size : KeySize) (e : key_size (length key) ≡ Some size) (sized : length block ≡ 16) where
   -- a block, in its own place; `cipher` is CIPH or its inverse
   pub block_done : (cipher : KeySize → List Bytes → Bytes → Bytes) {w : List Bytes} {b made out : Bytes} {next : ℕ}
       → w ≡ schedule size (over (zeros 32) key) → b ≡ take 16 block → made ≡ cipher size w b → length made ≡ 16 → Wrote block 0 made next out
@@ -68,20 +91,20 @@ module _ (key block : Bytes) (size : KeySize) (e : key_size (length key) ≡ Of 
       (replaced wrote (omega arith) ∙ em ∙ ap₂ (cipher size) ew (eb ∙ take_all 16 block (omega arith)))
 
 -- data in CBC; `cbc` is the mode in either direction
-module _ (key iv xs : Bytes) (size : KeySize) (e : key_size (length key) ≡ Of size) (sized : length iv ≡ 16)
-    (cbc : KeySize → List Bytes → Bytes → Bytes → Bytes) {w : List Bytes} {v out : Bytes} {told : Outcome}
+module _ (key iv xs : Bytes) (size : KeySize) (e : key_size (length key) ≡ Some size) (sized : length iv ≡ 16)
+    (cbc : KeySize → List Bytes → Bytes → Bytes → Bytes) {w : List Bytes} {v out : Bytes} {told : Result (Unit {0}) PartialBlock}
     (ew : w ≡ schedule size (over (zeros 32) key)) (ev : v ≡ take 16 iv) (et : told ≡ outcome xs) (eo : out ≡ if_whole (cbc size w v) xs) where
   abbrev Left : ℕ → Type 0
   Left n =
       (n ≡ answer key (block_long iv && whole xs)) × (out ≡ buffer key (block_long iv && whole xs) (λ s k. cbc s (schedule s k) iv xs) xs)
 
-  pub cbc_done : told ≡ Done → Left 0
+  pub cbc_done : {u : Unit {0}} → told ≡ Ok u → Left 0
   cbc_done t =
       let o = sym et ∙ t in
       done key (block_long iv && whole xs) _ xs size e (simp (eq-eqb _ _ sized, done_whole xs o))
       (eo ∙ done_changed _ xs o ∙ ap₂ (λ (u : List Bytes) (x : Bytes). cbc size u x xs) ew (ev ∙ take_all 16 iv (omega arith)))
 
-  pub cbc_partial : told ≡ PartialBlock → Left 7
+  pub cbc_partial : {b : PartialBlock} → told ≡ Err b → Left 7
   cbc_partial t =
       let o = sym et ∙ t in
       let m = malformed key (block_long iv && whole xs) (λ s k. cbc s (schedule s k) iv xs) xs size e (simp (eq-eqb _ _ sized, partial_not_whole xs o)) in

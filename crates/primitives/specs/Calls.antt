@@ -1,28 +1,32 @@
 -- The calls of c/include/primitives.h: AES, CBC and CMAC under a key of 16 or 32 bytes.
-use Rattle.std.specs.Prelude.{Bool, ◌&&◌, ◌++◌, ℕ, eqb, length}
+use Rattle.std.specs.Prelude.{Bool, ◌&&◌, ◌++◌, ℕ, eqb, length, Option, Some, None, option_map}
 use Rattle.octets.specs.Bytes.{Bytes, zeros}
 use Rattle.std.specs.Prelude.{if◌then◌else◌}
 use Rattle.octets.specs.Write.{over}
 use Rattle.aes.specs.Aes.{aes, inv_aes}
+use Rattle.aes_key_expansion.specs.ExpandedKey.{expanded_key}
+use Rattle.aes_key_expansion.specs.declared.ExpandedKey.{ExpandedKey}
 use Rattle.aes_key_expansion.specs.declared.KeySize.{KeySize}
 use Rattle.aes_key_expansion.specs.declared.KeySize.TheVariants.{Aes128, Aes256}
 use Rattle.mode_cbc.specs.Cbc.{cbc_encrypt, cbc_decrypt}
 use Rattle.mode_cbc.specs.Whole.{whole}
 use Rattle.mode_cmac.specs.Cmac.{cmac}
-use Rattle.primitives.specs.declared.Key.{Key}
-use Rattle.primitives.specs.declared.Key.TheVariants.{Of, BadLength}
 
 -- the size of a key of that length, if there is one
-unfoldable pub key_size : ℕ → Key
-key_size n = if eqb n 16 then Of Aes128 else (if eqb n 32 then Of Aes256 else BadLength)
+unfoldable pub key_size : ℕ → Option KeySize
+key_size n = if eqb n 16 then Some Aes128 else (if eqb n 32 then Some Aes256 else None)
+
+-- the key, which stands at the start of 32 bytes, made ready for the rounds
+unfoldable pub expanded : Bytes → Option ExpandedKey
+expanded key = option_map (λ size. expanded_key size (over (zeros 32) key)) (key_size (length key))
 
 -- as long as a block
 abbrev pub block_long : Bytes → Bool
 block_long b = eqb (length b) 16
 
-unfoldable pub with_key : {A : Type 0} → Key → A → (KeySize → A) → A
-with_key BadLength bad good = bad
-with_key (Of size) bad good = good size
+unfoldable pub with_key : {A : Type 0} → Option KeySize → A → (KeySize → A) → A
+with_key None bad good = bad
+with_key (Some size) bad good = good size
 
 -- 12: no key has that length; 7: the other lengths are not as they should be; 0: done
 unfoldable pub answer : Bytes → Bool → ℕ

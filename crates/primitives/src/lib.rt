@@ -1,66 +1,53 @@
 // AES, CBC and CMAC for C (c/include/primitives.h): for the benchmark and the comparison with another library.
 #![tactic(auto)]
 
-ghost use Rattle.std.specs.Prelude.{◌≡◌, ◌≤◌, length};
-ghost use Rattle.octets.specs.Bytes.{zeros};
-ghost use Rattle.octets.specs.Write.{over};
-ghost use Rattle.aes_key_expansion.specs.KeyExpansion.{schedule};
-ghost use Rattle.primitives.specs.Calls.{key_size, aes_answer, aes_encrypt_buffer, aes_decrypt_buffer, cbc_answer, cbc_encrypt_buffer, cbc_decrypt_buffer, cmac_answer, cmac_buffer};
+ghost use Rattle.std.specs.Prelude.{◌≡◌};
+ghost use Rattle.primitives.specs.Calls.{key_size, expanded, aes_answer, aes_encrypt_buffer, aes_decrypt_buffer, cbc_answer, cbc_encrypt_buffer, cbc_decrypt_buffer, cmac_answer, cmac_buffer};
 
-use aes_key_expansion::KeySize;
-use mode_cbc::Outcome;
+use aes_key_expansion::{ExpandedKey, KeySize};
 use mode_cmac::Cmac;
 use octets::put_bytes;
-use octets_blocks::block_at;
+use octets_blocks::array_at;
 
-// The numbers of the calls.
+// The numbers of the calls: the C interface has them, so the exports give numbers and no Result.
 const DONE: u32 = 0;
 
 const MALFORMED: u32 = 7;
 
 const BAD_KEY_LENGTH: u32 = 12;
 
-#[derive(Clone, Copy)]
-enum Key {
-    Of(KeySize),
-    BadLength,
-}
-
 // The size of a key as C hands it in.
-fn key_size(len: usize) -> Key
+fn key_size(len: usize) -> Option<KeySize>
     ensures { result ≡ key_size len }
 {
-    if len == 16 {
-        return Key::Of(KeySize::Aes128);
+    match len {
+        16 => Some(KeySize::Aes128),
+        32 => Some(KeySize::Aes256),
+        _ => None,
     }
-    if len == 32 {
-        return Key::Of(KeySize::Aes256);
-    }
-    Key::BadLength
 }
 
-// Its schedule.
-fn expanded(size: KeySize, key: &[u8]) -> [[u8; 4]; 60]
-    requires { length key.now ≤ 32 }
-    ensures { result ≡ schedule size (over (zeros 32) key.now) }
+// The key made ready for the rounds, where its length is a key's.
+fn expanded(key: &[u8]) -> Option<ExpandedKey>
+    ensures { result ≡ expanded key.now }
 {
+    let size = key_size(key.len())?;
     let mut bytes = [0u8; 32];
     put_bytes(&mut bytes, 0, key);
-    aes_key_expansion::key_expansion(size, bytes)
+    Some(ExpandedKey::new(size, bytes))
 }
 
 pub fn pivsm_aes_encrypt(key: &[u8], block: &mut [u8]) -> u32
     ensures answer { result ≡ aes_answer key.now block.old }
     ensures buffer { block.new ≡ aes_encrypt_buffer key.now block.old }
 {
-    let Key::Of(size) = key_size(key.len()) else {
+    let Some(key) = expanded(key) else {
         return BAD_KEY_LENGTH;
     };
     if block.len() != 16 {
         return MALFORMED;
     }
-    let w = expanded(size, key);
-    let result = aes::encrypt_block(size, &w, block_at(block, 0));
+    let result = aes::encrypt_block(&key, array_at(block, 0));
     put_bytes(block, 0, &result);
     DONE
 }
@@ -69,14 +56,13 @@ pub fn pivsm_aes_decrypt(key: &[u8], block: &mut [u8]) -> u32
     ensures answer { result ≡ aes_answer key.now block.old }
     ensures buffer { block.new ≡ aes_decrypt_buffer key.now block.old }
 {
-    let Key::Of(size) = key_size(key.len()) else {
+    let Some(key) = expanded(key) else {
         return BAD_KEY_LENGTH;
     };
     if block.len() != 16 {
         return MALFORMED;
     }
-    let w = expanded(size, key);
-    let result = aes::decrypt_block(size, &w, block_at(block, 0));
+    let result = aes::decrypt_block(&key, array_at(block, 0));
     put_bytes(block, 0, &result);
     DONE
 }
@@ -85,16 +71,15 @@ pub fn pivsm_cbc_encrypt(key: &[u8], iv: &[u8], data: &mut [u8]) -> u32
     ensures answer { result ≡ cbc_answer key.now iv.now «data».old }
     ensures buffer { «data».new ≡ cbc_encrypt_buffer key.now iv.now «data».old }
 {
-    let Key::Of(size) = key_size(key.len()) else {
+    let Some(key) = expanded(key) else {
         return BAD_KEY_LENGTH;
     };
     if iv.len() != 16 {
         return MALFORMED;
     }
-    let w = expanded(size, key);
-    match mode_cbc::encrypt(size, &w, block_at(iv, 0), data) {
-        Outcome::Done => DONE,
-        Outcome::PartialBlock => MALFORMED,
+    match mode_cbc::encrypt(&key, array_at(iv, 0), data) {
+        Ok(()) => DONE,
+        Err(_) => MALFORMED,
     }
 }
 
@@ -102,16 +87,15 @@ pub fn pivsm_cbc_decrypt(key: &[u8], iv: &[u8], data: &mut [u8]) -> u32
     ensures answer { result ≡ cbc_answer key.now iv.now «data».old }
     ensures buffer { «data».new ≡ cbc_decrypt_buffer key.now iv.now «data».old }
 {
-    let Key::Of(size) = key_size(key.len()) else {
+    let Some(key) = expanded(key) else {
         return BAD_KEY_LENGTH;
     };
     if iv.len() != 16 {
         return MALFORMED;
     }
-    let w = expanded(size, key);
-    match mode_cbc::decrypt(size, &w, block_at(iv, 0), data) {
-        Outcome::Done => DONE,
-        Outcome::PartialBlock => MALFORMED,
+    match mode_cbc::decrypt(&key, array_at(iv, 0), data) {
+        Ok(()) => DONE,
+        Err(_) => MALFORMED,
     }
 }
 
@@ -120,17 +104,16 @@ pub fn pivsm_cmac(key: &[u8], head: &[u8], rest: &[u8], mac: &mut [u8]) -> u32
     ensures answer { result ≡ cmac_answer key.now mac.old }
     ensures buffer { mac.new ≡ cmac_buffer key.now head.now rest.now mac.old }
 {
-    let Key::Of(size) = key_size(key.len()) else {
+    let Some(key) = expanded(key) else {
         return BAD_KEY_LENGTH;
     };
     if mac.len() != 16 {
         return MALFORMED;
     }
-    let w = expanded(size, key);
     let result = Cmac::start()
-        .absorb(size, &w, head)
-        .absorb(size, &w, rest)
-        .finish(size, &w);
+        .absorb(&key, head)
+        .absorb(&key, rest)
+        .finish(&key);
     put_bytes(mac, 0, &result);
     DONE
 }

@@ -1,12 +1,15 @@
 -- Rules 2.1 and 2.2: the number of each refusal, and what it gives beside it.
-use Rattle.std.specs.Prelude.{ℕ, ◌+◌, ◌*◌}
+use Rattle.std.specs.Prelude.{ℕ, ◌+◌}
+use Rattle.apdu.specs.Apdu.{status_word}
+use Rattle.apdu.specs.declared.StatusWord.{StatusWord}
 use Rattle.refusal.specs.declared.Refusal.{Refusal}
 use Rattle.refusal.specs.declared.Refusal.TheVariants.{SessionClosed, OutOfTurn, NotPermitted, TooLong, CommandLimit, BufferTooSmall, Malformed, MissingObject, BadMac, BadPadding, UnknownSuite, BadKeyLength, Unprotected, BrokenChain, FragmentTooLong, BadSession}
-use Rattle.refusal.specs.declared.Told.{Told}
-use Rattle.refusal.specs.declared.Told.TheVariants.{Number, Size, Status}
 
-abbrev pub status_word : ℕ → ℕ → ℕ
-status_word sw1 sw2 = sw1 * 256 + sw2
+-- a row of the table: a number alone, 6 with the size needed, or 13 with the status word
+pub data Told : Type 0 where
+  Number : ℕ → Told
+  Size : ℕ → Told
+  Status : StatusWord → Told
 
 -- the table's rows: a number alone, but for the size needed at 6 and the status word, unverified, at 13
 abbrev pub tells : Refusal → Told
@@ -22,7 +25,7 @@ tells BadMac = Number 9
 tells BadPadding = Number 10
 tells UnknownSuite = Number 11
 tells BadKeyLength = Number 12
-tells (Unprotected sw1 sw2) = Status sw1 sw2
+tells (Unprotected sw) = Status sw
 tells BrokenChain = Number 14
 tells FragmentTooLong = Number 15
 tells BadSession = Number 16
@@ -30,17 +33,17 @@ tells BadSession = Number 16
 abbrev pub number_told : Told → ℕ
 number_told (Number n) = n
 number_told (Size n) = 6
-number_told (Status sw1 sw2) = 13
+number_told (Status sw) = 13
 
 abbrev pub size_told : Told → ℕ
 size_told (Number n) = 0
 size_told (Size n) = n
-size_told (Status sw1 sw2) = 0
+size_told (Status sw) = 0
 
 abbrev pub status_told : Told → ℕ
 status_told (Number n) = 0
 status_told (Size n) = 0
-status_told (Status sw1 sw2) = status_word sw1 sw2
+status_told (Status sw) = status_word sw
 
 abbrev pub number : Refusal → ℕ
 number r = number_told (tells r)

@@ -13,8 +13,7 @@ use Rattle.session.specs.Opening.{open_suite, opening}
 use Rattle.session.specs.Arrays.{Block, Arrays}
 use Rattle.session.specs.declared.Side.{Side}
 use Rattle.session_suite.specs.declared.Suite.{Suite}
-use Rattle.session_suite.specs.declared.SuiteNumber.{SuiteNumber}
-use Rattle.session_suite.specs.declared.SuiteNumber.TheVariants.{Known, Unknown}
+use Rattle.std.specs.Prelude.{Option, Some, None}
 use Rattle.session_suite.proofs.StoredKeys.{key_length_most, fitting}
 
 zero_block : (n : ℕ) → Block n (zeros n)
@@ -33,11 +32,11 @@ closed_at_arrays side suite =
     record { enc = zero_block 32; mac = zero_block 32; rmac = zero_block 32; command = zero_block 16; response = zero_block 16 }
 
 -- refused or not
-pub opening_arrays : (side : Side) (suite : ℕ) (k : Keys) → KeysOfBytes k → Arrays (opening side suite k).session
+pub opening_arrays : (side : Side) (suite : ℕ) (k : Keys) → KeysOfBytes k → Arrays (opening side suite k).next
 unfolding opening open_suite
 opening_arrays side suite k b = go (suite_of suite)
   where
-    at_suite : (known : Suite) (fit : Bool) → keys_fit (key_length known) k ≡ fit → Arrays (open_suite side (Known known) k).session
+    at_suite : (known : Suite) (fit : Bool) → keys_fit (key_length known) k ≡ fit → Arrays (open_suite side (Some known) k).next
     at_suite known true e =
         let f = fitting (key_length known) k e in
         let m = key_length_most known in
@@ -50,6 +49,6 @@ opening_arrays side suite k b = go (suite_of suite)
         })
     at_suite known false e = rw e (closed_at_arrays side _)
 
-    go : (known : SuiteNumber) → Arrays (open_suite side known k).session
-    go (Known known) = at_suite known (keys_fit (key_length known) k) refl
-    go Unknown = closed_at_arrays side _
+    go : (known : Option Suite) → Arrays (open_suite side known k).next
+    go (Some known) = at_suite known (keys_fit (key_length known) k) refl
+    go None = closed_at_arrays side _

@@ -10,17 +10,17 @@ use Rattle.session.specs.Opening.{open_suite, opening}
 use Rattle.session.specs.declared.Side.TheVariants.{Host, Card}
 use Rattle.session.specs.declared.Phase.TheVariants.{Ready, Closed}
 use Rattle.session_suite.specs.declared.Suite.TheVariants.{Cs2}
-use Rattle.session.specs.declared.Opening.TheVariants.{Opened as Done, Refused}
+use Rattle.std.specs.Prelude.{Ok, Err}
 use Rattle.session.specs.declared.Session.{Session}
 
 of16 : Keys
 of16 = keys (replicate 16 1) (replicate 16 2) (replicate 16 3)
 
 opened : Session
-opened = (opening Card 2 of16).session
+opened = (opening Card 2 of16).next
 
 record Computed : Type 0 where
-  done : (opening Card 2 of16).answer ≡ Done
+  done : (opening Card 2 of16).answer ≡ Ok tt
   side_is : opened.side ≡ Card
   phase_is : opened.phase ≡ Ready
   suite_is : opened.suite ≡ Cs2
@@ -31,8 +31,8 @@ record Computed : Type 0 where
   command_mcv_is : opened.command_mcv ≡ zeros 16
   response_mcv_is : opened.response_mcv ≡ zeros 16
   -- 11 comes before 12
-  no_suite : (opening Host 3 (keys (zeros 1) (zeros 1) (zeros 1))).answer ≡ Refused UnknownSuite
-  no_key : (opening Host 7 of16).answer ≡ Refused BadKeyLength
+  no_suite : (opening Host 3 (keys (zeros 1) (zeros 1) (zeros 1))).answer ≡ Err UnknownSuite
+  no_key : (opening Host 7 of16).answer ≡ Err BadKeyLength
   closed_phase : (closed opened).phase ≡ Closed
   closed_count : (closed opened).count ≡ 0
   closed_enc : (closed opened).sk_enc ≡ zeros 32

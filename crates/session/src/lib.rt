@@ -1,26 +1,26 @@
 // The session of secure messaging: a value that each call takes and gives back (rules 3.1 to 3.4).
 #![tactic(auto)]
 
-ghost use Rattle.std.specs.Prelude.{◌≡◌};
+ghost use Rattle.std.specs.Prelude.{◌≡◌, Some};
 ghost use Rattle.session_suite.specs.StoredKeys.{KeysOfBytes, keys};
 ghost use Rattle.session.specs.Session.{fresh, closed, closed_at, no_session};
 ghost use Rattle.session.specs.Opening.{not_opened, open_suite, opening};
 
-use refusal::Refusal;
-use session_suite::{Suite, SuiteNumber, keys_fit, stored, suite_of};
+use refusal::{Answered, Refusal};
+use session_suite::{Suite, keys_fit, stored, suite_of};
 
-#[derive(Clone, Copy)]
+#[derive(Clone, Copy, PartialEq, Eq)]
 pub enum Side {
-    Host,
-    Card,
+    Host = 0,
+    Card = 1,
 }
 
-#[derive(Clone, Copy)]
+#[derive(Clone, Copy, PartialEq, Eq)]
 pub enum Phase {
-    Ready,
+    Ready = 0,
     // A command is outstanding: the host waits for its response, the card is to wrap it.
-    Pending,
-    Closed,
+    Pending = 1,
+    Closed = 2,
 }
 
 #[derive(Clone, Copy)]
@@ -37,19 +37,6 @@ pub struct Session {
     // The MAC chaining values.
     pub command_mcv: [u8; 16],
     pub response_mcv: [u8; 16],
-}
-
-#[derive(Clone, Copy)]
-pub enum Opening {
-    Opened,
-    Refused(Refusal),
-}
-
-// The answer of an opening, and the session; where it is refused, what stands for none.
-#[derive(Clone, Copy)]
-pub struct Opened {
-    pub answer: Opening,
-    pub session: Session,
 }
 
 impl Session {
@@ -110,13 +97,17 @@ impl Session {
     pub fn close(self) -> Session
         ensures { result ≡ closed self }
     {
-        let side = self.side;
-        let suite = self.suite;
-        Session::closed_at(side, suite)
+        Session::closed_at(self.side, self.suite)
     }
 
-    // The host's opening: refusals 11 and 12.
-    pub fn open_host(suite: u32, sk_enc: &[u8], sk_mac: &[u8], sk_rmac: &[u8]) -> Opened
+    // The host's opening: refusals 11 and 12. It and the card's are two names of one function over the side, since C and the
+    // theorems of an opening have a call for each side.
+    pub fn open_host(
+        suite: u32,
+        sk_enc: &[u8],
+        sk_mac: &[u8],
+        sk_rmac: &[u8],
+    ) -> Answered<(), Session>
         ensures opened { result ≡ opening Side.Host suite (keys sk_enc.now sk_mac.now sk_rmac.now) }
         ensures bytes { KeysOfBytes (keys sk_enc.now sk_mac.now sk_rmac.now) }
     {
@@ -124,7 +115,12 @@ impl Session {
     }
 
     // The card's opening: refusals 11 and 12.
-    pub fn open_card(suite: u32, sk_enc: &[u8], sk_mac: &[u8], sk_rmac: &[u8]) -> Opened
+    pub fn open_card(
+        suite: u32,
+        sk_enc: &[u8],
+        sk_mac: &[u8],
+        sk_rmac: &[u8],
+    ) -> Answered<(), Session>
         ensures opened { result ≡ opening Side.Card suite (keys sk_enc.now sk_mac.now sk_rmac.now) }
         ensures bytes { KeysOfBytes (keys sk_enc.now sk_mac.now sk_rmac.now) }
     {
@@ -132,37 +128,49 @@ impl Session {
     }
 }
 
-fn not_opened(side: Side, refusal: Refusal) -> Opened
+// A refused opening, and what stands for no session.
+fn not_opened(side: Side, refusal: Refusal) -> Answered<(), Session>
     ensures { result ≡ not_opened side refusal }
 {
-    let session = Session::none(side);
-    Opened {
-        answer: Opening::Refused(refusal),
-        session,
+    Answered {
+        answer: Err(refusal),
+        next: Session::none(side),
     }
 }
 
-fn open_suite(side: Side, suite: Suite, enc: &[u8], mac: &[u8], rmac: &[u8]) -> Opened
-    ensures { result ≡ open_suite side (SuiteNumber.Known suite) (keys enc.now mac.now rmac.now) }
+#[tactic(auto, unfolding(crate::specs::Opening::open_suite))]
+fn open_suite(
+    side: Side,
+    suite: Suite,
+    enc: &[u8],
+    mac: &[u8],
+    rmac: &[u8],
+) -> Answered<(), Session>
+    ensures { result ≡ open_suite side (Some suite) (keys enc.now mac.now rmac.now) }
 {
-    let n = suite.key_length();
-    if keys_fit(n, enc, mac, rmac) {
-        let session = Session::fresh(side, suite, stored(enc), stored(mac), stored(rmac));
-        return Opened {
-            answer: Opening::Opened,
-            session,
-        };
+    if keys_fit(suite.key_length(), enc, mac, rmac) {
+        Answered {
+            answer: Ok(()),
+            next: Session::fresh(side, suite, stored(enc), stored(mac), stored(rmac)),
+        }
+    } else {
+        not_opened(side, Refusal::BadKeyLength)
     }
-    not_opened(side, Refusal::BadKeyLength)
 }
 
-fn open_session(side: Side, suite: u32, enc: &[u8], mac: &[u8], rmac: &[u8]) -> Opened
+#[tactic(auto, unfolding(crate::specs::Opening::open_suite, crate::specs::Opening::opening))]
+fn open_session(
+    side: Side,
+    suite: u32,
+    enc: &[u8],
+    mac: &[u8],
+    rmac: &[u8],
+) -> Answered<(), Session>
     ensures opened { result ≡ opening side suite (keys enc.now mac.now rmac.now) }
     ensures bytes { KeysOfBytes (keys enc.now mac.now rmac.now) }
 {
-    let known = suite_of(suite);
-    match known {
-        SuiteNumber::Known(cipher_suite) => open_suite(side, cipher_suite, enc, mac, rmac),
-        SuiteNumber::Unknown => not_opened(side, Refusal::UnknownSuite),
+    match suite_of(suite) {
+        Some(known) => open_suite(side, known, enc, mac, rmac),
+        None => not_opened(side, Refusal::UnknownSuite),
     }
 }

@@ -8,6 +8,7 @@ use borrow.Author.Tests.{eq-eqb}
 use lib.Dec.{leb}
 use lib.ListN.{length, length-append}
 use lib.Seq.{take_at, drop_at}
+use Rattle.std.specs.Prelude.{Some}
 use Rattle.octets.specs.Bytes.{Bytes}
 use Rattle.octets_numbers.specs.BigEndian.{big_endian, number_from, number_in}
 use Rattle.octets_numbers.proofs.BigEndian.{number_big_endian}
@@ -19,7 +20,6 @@ use Rattle.session.specs.declared.Phase.{Phase}
 use Rattle.session.specs.declared.Phase.TheVariants.{Ready, Pending, Closed}
 use Rattle.session_suite.specs.declared.Suite.{Suite}
 use Rattle.session_suite.specs.declared.Suite.TheVariants.{Cs2, Cs7}
-use Rattle.session_suite.specs.declared.SuiteNumber.TheVariants.{Known}
 use Rattle.session.specs.declared.Session.{Session}
 use Rattle.session_rules.specs.Valid.{valid}
 use Rattle.session_rules.proofs.KeepsTheRules.{valid_count}
@@ -37,7 +37,7 @@ phase_back Ready = refl
 phase_back Pending = refl
 phase_back Closed = refl
 
-suite_back : (suite : Suite) → suite_of (number suite) ≡ Known suite
+suite_back : (suite : Suite) → suite_of (number suite) ≡ Some suite
 suite_back Cs2 = refl
 suite_back Cs7 = refl
 

@@ -10,7 +10,7 @@ use lib.Dec.{eqb}
 use lib.ListN.{length, get_or, drop, length-drop, take-append-drop}
 use lib.Seq.{length-take-le, drop-cons, drop-drop, get_or-take, get_or-drop, take_all}
 use Rattle.octets.specs.Bytes.{Bytes, IsBytes}
-use Rattle.std.specs.Prelude.{if◌then◌else◌}
+use Rattle.std.specs.Prelude.{if◌then◌else◌, Option, Some, None, Ok}
 use Rattle.octets.proofs.ByteStrings.{byte_at}
 use Rattle.octets_numbers.specs.BigEndian.{big_endian, number_in}
 use Rattle.octets_numbers.proofs.BigEndian.{big_endian_number}
@@ -18,43 +18,40 @@ use Rattle.session_suite.specs.Suites.{number, suite_of}
 use Rattle.session.specs.Arrays.{Block, Arrays}
 use Rattle.session_suite.specs.declared.Suite.{Suite}
 use Rattle.session_suite.specs.declared.Suite.TheVariants.{Cs2, Cs7}
-use Rattle.session_suite.specs.declared.SuiteNumber.{SuiteNumber}
-use Rattle.session_suite.specs.declared.SuiteNumber.TheVariants.{Known, Unknown}
 use Rattle.session.specs.declared.Session.{Session}
 use Rattle.session_rules.specs.Valid.{valid}
 use Rattle.session_bytes.specs.Saved.{session_size, side_number, phase_number, header, keys, mcvs, encode, headed, side_from, phase_from, part, session_from, accepted, decode_suite, decode}
-use Rattle.session_bytes.specs.declared.Decoding.TheVariants.{Decoded as Done}
-use Rattle.session_bytes.specs.declared.Decoded.{Decoded}
 use Rattle.session_bytes.proofs.SavedParts.{Headed, headed_right}
 use Rattle.session_bytes.proofs.DecodeEncode.{decode_encode}
 
 -- ---- what was decoded
 
-pub record Read (b : Bytes) : Type 0 where
+pub record Read (b : Bytes) (s : Session) : Type 0 where
   pub suite : Suite
   pub first : Headed b
-  pub known : suite_of (get_or b 5 0) ≡ Known suite
-  pub keeps : valid (session_from b suite) ≡ true
-  pub session : (decode b).session ≡ session_from b suite
+  pub known : suite_of (get_or b 5 0) ≡ Some suite
+  pub keeps : valid s ≡ true
+  pub session : s ≡ session_from b suite
 
-pub decoded_read : (b : Bytes) → (decode b).answer ≡ Done → Read b
+pub decoded_read : (b : Bytes) (s : Session) → decode b ≡ Ok s → Read b s
 unfolding decode decode_suite accepted
-decoded_read b = at_header (headed b) refl
+decoded_read b s = at_header (headed b) refl
   where
     never : {A : Type 0} → ◌≡◌ {A = ℕ} 0 1 → A
     never z = let o : ⊥ = omega arith in absurd o
 
-    at_rules : (suite : Suite) (keeps : Bool) → headed b ≡ true → suite_of (get_or b 5 0) ≡ Known suite
-        → valid (session_from b suite) ≡ keeps → (decode b).answer ≡ Done → Read b
+    at_rules : (suite : Suite) (keeps : Bool) → headed b ≡ true → suite_of (get_or b 5 0) ≡ Some suite
+        → valid (session_from b suite) ≡ keeps → decode b ≡ Ok s → Read b s
     at_rules suite true h k v e =
-        record { suite = suite; first = headed_right b h; known = k; keeps = v; session = rw (h, k, v) }
+        let g : s ≡ session_from b suite = let f = rw (h, k, v) at e in cc in
+        record { suite = suite; first = headed_right b h; known = k; keeps = ap valid g ∙ v; session = g }
     at_rules suite false h k v e = let g = rw (h, k, v) at e in never (cc)
 
-    at_suite : (known : SuiteNumber) → headed b ≡ true → suite_of (get_or b 5 0) ≡ known → (decode b).answer ≡ Done → Read b
-    at_suite (Known suite) h k e = at_rules suite (valid (session_from b suite)) h k refl e
-    at_suite Unknown h k e = let g = rw (h, k) at e in never (cc)
+    at_suite : (known : Option Suite) → headed b ≡ true → suite_of (get_or b 5 0) ≡ known → decode b ≡ Ok s → Read b s
+    at_suite (Some suite) h k e = at_rules suite (valid (session_from b suite)) h k refl e
+    at_suite None h k e = let g = rw (h, k) at e in never (cc)
 
-    at_header : (right : Bool) → headed b ≡ right → (decode b).answer ≡ Done → Read b
+    at_header : (right : Bool) → headed b ≡ right → decode b ≡ Ok s → Read b s
     at_header true h e = at_suite (suite_of (get_or b 5 0)) h refl e
     at_header false h e = let g = rw h at e in never (cc)
 
@@ -71,14 +68,14 @@ phase_number_lem (suc zero) h = refl
 phase_number_lem (suc (suc zero)) h = refl
 phase_number_lem (suc (suc (suc n))) h = let z : ⊥ = omega arith in absurd z
 
-suite_number : (n : ℕ) (suite : Suite) → suite_of n ≡ Known suite → number suite ≡ n
+suite_number : (n : ℕ) (suite : Suite) → suite_of n ≡ Some suite → number suite ≡ n
 suite_number n suite = at_2 (eqb n 2) refl
   where
-    at_7 : (t : Bool) → eqb n 7 ≡ t → (if t then Known Cs7 else Unknown) ≡ Known suite → number suite ≡ n
+    at_7 : (t : Bool) → eqb n 7 ≡ t → (if t then Some Cs7 else None) ≡ Some suite → number suite ≡ n
     at_7 true e k = let s : Cs7 ≡ suite = cc in sym (ap number s) ∙ sym (eqb-true n 7 e)
     at_7 false e k = let z : ◌≡◌ {A = ℕ} 0 1 = cc in let o : ⊥ = omega arith in absurd o
 
-    at_2 : (t : Bool) → eqb n 2 ≡ t → (if t then Known Cs2 else (if eqb n 7 then Known Cs7 else Unknown)) ≡ Known suite
+    at_2 : (t : Bool) → eqb n 2 ≡ t → (if t then Some Cs2 else (if eqb n 7 then Some Cs7 else None)) ≡ Some suite
         → number suite ≡ n
     at_2 true e k = let s : Cs2 ≡ suite = cc in sym (ap number s) ∙ sym (eqb-true n 2 e)
     at_2 false e k = at_7 (eqb n 7) refl k
@@ -104,7 +101,7 @@ number_part b at n h l =
     let p = part_block b at n h l in
     ap (λ (k : ℕ). big_endian k (number_in (part b at n))) (sym p.size) ∙ big_endian_number (part b at n) p.bytes
 
-module _ (b : Bytes) (h : IsBytes b) (r : Read b) where
+module _ (b : Bytes) (h : IsBytes b) (t : Session) (r : Read b t) where
   abbrev s : Session
   s = session_from b r.suite
 
@@ -148,20 +145,22 @@ module _ (b : Bytes) (h : IsBytes b) (r : Read b) where
 
 -- ---- the laws
 
-pub encode_decode : (b : Bytes) → IsBytes b → (decode b).answer ≡ Done → encode (decode b).session ≡ b
-encode_decode b h e = let r = decoded_read b e in ap encode r.session ∙ session_same b h r
+module _ (b : Bytes) (h : IsBytes b) (s : Session) (e : decode b ≡ Ok s) where
+  pub encode_decode : encode s ≡ b
+  encode_decode = let r = decoded_read b s e in ap encode r.session ∙ session_same b h s r
 
--- what is decoded keeps the rules, and its arrays have their lengths
-pub decoded_valid : (b : Bytes) → (decode b).answer ≡ Done → valid (decode b).session ≡ true
-decoded_valid b e = let r = decoded_read b e in ap valid r.session ∙ r.keeps
+  -- the arrays of what is decoded have their lengths
+  pub decoded_arrays : Arrays s
+  decoded_arrays = let r = decoded_read b s e in subst Arrays (sym r.session) (read_arrays b h s r)
 
-pub decoded_arrays : (b : Bytes) → IsBytes b → (decode b).answer ≡ Done → Arrays (decode b).session
-decoded_arrays b h e = let r = decoded_read b e in subst Arrays (sym r.session) (read_arrays b h r)
+-- what is decoded keeps the rules
+pub decoded_valid : (b : Bytes) (s : Session) → decode b ≡ Ok s → valid s ≡ true
+decoded_valid b s e = (decoded_read b s e).keeps
 
--- exactly these bytes are decoded
-pub decoded_exactly : (b : Bytes) → IsBytes b
-    → ((decode b).answer ≡ Done) ↔ ((s : Session) × (valid s ≡ true) × Arrays s × (b ≡ encode s))
-decoded_exactly b h = (
-  λ e. ((decode b).session, decoded_valid b e, decoded_arrays b h e, sym (encode_decode b h e)),
-  λ w. ap (λ (l : Bytes). (decode l).answer) w.3 ∙ ap (λ (d : Decoded). d.answer) (decode_encode w.0 w.2 w.1),
+-- a session is decoded from exactly its encoding
+pub decoded_exactly : (b : Bytes) → IsBytes b → (s : Session)
+    → (decode b ≡ Ok s) ↔ ((valid s ≡ true) × Arrays s × (b ≡ encode s))
+decoded_exactly b h s = (
+  λ e. (decoded_valid b s e, decoded_arrays b h s e, sym (encode_decode b h s e)),
+  λ w. ap decode w.2 ∙ decode_encode s w.1 w.0,
 )

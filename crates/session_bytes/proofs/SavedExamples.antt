@@ -77,8 +77,8 @@ closed_at_1 = refl
 
 -- the numbers of a reading that gives a session, and of one that does not
 reading_numbers :
-    reading_answered (decode (0x00 ∷ 0x88 ∷ 0x01 ∷ 0x01 ∷ 0x02 ∷ 0x07 ∷ zeros 132)).answer
-    ∷ reading_answered (decode (0x00 ∷ 0x88 ∷ 0x01 ∷ 0x01 ∷ 0x02 ∷ 0x07 ∷ zeros 131)).answer ∷ []
+    reading_answered (decode (0x00 ∷ 0x88 ∷ 0x01 ∷ 0x01 ∷ 0x02 ∷ 0x07 ∷ zeros 132))
+    ∷ reading_answered (decode (0x00 ∷ 0x88 ∷ 0x01 ∷ 0x01 ∷ 0x02 ∷ 0x07 ∷ zeros 131)) ∷ []
     ≡ answered 0 0 ∷ answered 16 0 ∷ []
 unfolding decode headed decode_suite accepted session_from valid keeps_phase keys_zero mcvs_zero all_zero number_in number_from
 reading_numbers = refl

@@ -2,6 +2,7 @@
 use mathlib.Core.Path.{◌≡◌, refl}
 use mathlib.Core.List.{[], ◌∷◌}
 use Prim.Native.Nat.{◌-◌}
+use Rattle.std.specs.Prelude.{Ok, Err}
 use Rattle.octets.specs.Bytes.{zeros}
 use Rattle.refusal.specs.declared.Refusal.TheVariants.{SessionClosed, BufferTooSmall}
 use Rattle.session_suite.specs.declared.Suite.TheVariants.{Cs2, Cs7}
@@ -14,7 +15,6 @@ use Rattle.session_rules.specs.ZeroBytes.{all_zero, keys_end, keys_zero, mcvs_ze
 use Rattle.session_bytes.specs.Saved.{session_size}
 use Rattle.session_bytes.specs.Answered.{answered, saving_answered}
 use Rattle.session_bytes.specs.Saving.{encoding}
-use Rattle.session_bytes.specs.declared.Encoding.TheVariants.{Encoded, Refused}
 
 -- it waits for a response, and has counted no command
 broken : Session
@@ -35,20 +35,20 @@ new : Session
 new = fresh Host Cs2 (zeros 32) (zeros 32) (zeros 32)
 
 -- 1 comes before 6
-broken_without_room : encoding broken 0 ≡ Refused SessionClosed
+broken_without_room : encoding broken 0 ≡ Err SessionClosed
 unfolding encoding valid keeps_phase keys_end all_zero broken
 broken_without_room = refl
 
-room_one_byte_short : encoding new (session_size - 1) ≡ Refused (BufferTooSmall session_size)
+room_one_byte_short : encoding new (session_size - 1) ≡ Err (BufferTooSmall session_size)
 unfolding encoding valid keeps_phase keys_end mcvs_zero all_zero new
 room_one_byte_short = refl
 
-room_enough : encoding new session_size ≡ Encoded
+room_enough : encoding new session_size ≡ Ok tt
 unfolding encoding valid keeps_phase keys_end mcvs_zero all_zero new
 room_enough = refl
 
 -- 1 is only for a session that breaks the rules
-closed : encoding (closed_at Card Cs7) session_size ≡ Encoded
+closed : encoding (closed_at Card Cs7) session_size ≡ Ok tt
 unfolding encoding valid keeps_phase keys_zero mcvs_zero all_zero
 closed = refl
 

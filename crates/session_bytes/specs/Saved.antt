@@ -1,22 +1,17 @@
 -- Rule 8.1: a session as 138 bytes, and back. Numbers are big-endian.
-use Rattle.std.specs.Prelude.{Bool, ◌&&◌, ◌∷◌, ◌++◌, ℕ, ◌-◌, eqb, leb, length, get_or, take, drop}
+use Rattle.std.specs.Prelude.{Bool, ◌&&◌, ◌∷◌, ◌++◌, ℕ, ◌-◌, eqb, leb, length, get_or, take, drop, if◌then◌else◌, Option, Some, None, Result, Ok, Err}
 use Rattle.octets.specs.Bytes.{Bytes}
-use Rattle.std.specs.Prelude.{if◌then◌else◌}
 use Rattle.octets_numbers.specs.BigEndian.{big_endian, number_in}
+use Rattle.refusal.specs.declared.Refusal.{Refusal}
 use Rattle.refusal.specs.declared.Refusal.TheVariants.{BadSession}
 use Rattle.session_suite.specs.Suites.{number, suite_of}
-use Rattle.session.specs.Session.{no_session}
 use Rattle.session.specs.declared.Side.{Side}
 use Rattle.session.specs.declared.Side.TheVariants.{Host, Card}
 use Rattle.session.specs.declared.Phase.{Phase}
 use Rattle.session.specs.declared.Phase.TheVariants.{Ready, Pending, Closed}
 use Rattle.session_suite.specs.declared.Suite.{Suite}
-use Rattle.session_suite.specs.declared.SuiteNumber.{SuiteNumber}
-use Rattle.session_suite.specs.declared.SuiteNumber.TheVariants.{Known, Unknown}
 use Rattle.session.specs.declared.Session.{Session}
 use Rattle.session_rules.specs.Valid.{valid}
-use Rattle.session_bytes.specs.declared.Decoding.TheVariants.{Decoded as Done, Refused}
-use Rattle.session_bytes.specs.declared.Decoded.{Decoded}
 
 -- the length of a saved session
 abbrev pub session_size : ℕ
@@ -83,20 +78,23 @@ session_from b suite =
       response_mcv = part b 122 16;
     }
 
-abbrev pub decoded_to : Session → Decoded
-decoded_to s = record { answer = Done; session = s }
+-- the session, or 16
+abbrev pub Decoded : Type 0
+Decoded = Result Session Refusal
 
--- 16, and no session
+abbrev pub decoded_to : Session → Decoded
+decoded_to s = Ok s
+
 abbrev pub unreadable : Decoded
-unreadable = record { answer = Refused BadSession; session = no_session Host }
+unreadable = Err BadSession
 
 -- a session that keeps the rules
 unfoldable pub accepted : Session → Decoded
 accepted s = if valid s then decoded_to s else unreadable
 
-unfoldable pub decode_suite : Bytes → SuiteNumber → Decoded
-decode_suite b (Known suite) = accepted (session_from b suite)
-decode_suite b Unknown = unreadable
+unfoldable pub decode_suite : Bytes → Option Suite → Decoded
+decode_suite b (Some suite) = accepted (session_from b suite)
+decode_suite b None = unreadable
 
 unfoldable pub decode : Bytes → Decoded
 decode b = if headed b then decode_suite b (suite_of (get_or b 5 0)) else unreadable

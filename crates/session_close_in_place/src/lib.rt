@@ -12,5 +12,5 @@ use session::Session;
 pub fn close_in_place(session: &mut Session)
     ensures { session.new ≡ closed session.old }
 {
-    *session = Session::close(*session);
+    *session = session.close();
 }

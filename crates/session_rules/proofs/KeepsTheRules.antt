@@ -18,11 +18,9 @@ use Rattle.session_suite.specs.StoredKeys.{stored, Keys, keys_fit}
 use Rattle.session.specs.Opening.{open_suite, opening}
 use Rattle.session.specs.declared.Side.{Side}
 use Rattle.session_suite.specs.declared.Suite.{Suite}
-use Rattle.session_suite.specs.declared.SuiteNumber.{SuiteNumber}
-use Rattle.session_suite.specs.declared.SuiteNumber.TheVariants.{Known, Unknown}
+use Rattle.std.specs.Prelude.{Option, Some, None, Ok}
 use Rattle.session.specs.declared.Phase.{Phase}
 use Rattle.session.specs.declared.Phase.TheVariants.{Ready, Pending, Closed}
-use Rattle.session.specs.declared.Opening.TheVariants.{Opened as Done}
 use Rattle.session.specs.declared.Session.{Session}
 use Rattle.session_suite.proofs.StoredKeys.{fitting}
 use Rattle.session_rules.specs.Valid.{keeps_phase, valid, is_open, counts_as_open}
@@ -70,19 +68,19 @@ fresh_served side suite k h =
     let n = key_length suite in
     and_intro (and_intro (and_intro (behind k.enc n f.enc) (behind k.mac n f.mac)) (behind k.rmac n f.rmac)) refl
 
-pub opening_served : (side : Side) (suite : ℕ) (k : Keys) → (opening side suite k).answer ≡ Done
-    → counts_as_open (opening side suite k).session ≡ true
+pub opening_served : (side : Side) (suite : ℕ) (k : Keys) → (opening side suite k).answer ≡ Ok tt
+    → counts_as_open (opening side suite k).next ≡ true
 unfolding opening open_suite
 opening_served side suite k = go (suite_of suite)
   where
     at_suite : (known : Suite) (fit : Bool) → keys_fit (key_length known) k ≡ fit
-        → (open_suite side (Known known) k).answer ≡ Done → counts_as_open (open_suite side (Known known) k).session ≡ true
+        → (open_suite side (Some known) k).answer ≡ Ok tt → counts_as_open (open_suite side (Some known) k).next ≡ true
     at_suite known true f e = rw f (fresh_served side known k f)
     at_suite known false f e = let g = rw f at e in let z : ◌≡◌ {A = ℕ} 0 1 = cc in let o : ⊥ = omega arith in absurd o
 
-    go : (known : SuiteNumber) → (open_suite side known k).answer ≡ Done → counts_as_open (open_suite side known k).session ≡ true
-    go (Known known) e = at_suite known (keys_fit (key_length known) k) refl e
-    go Unknown e = let z : ◌≡◌ {A = ℕ} 0 1 = cc in let o : ⊥ = omega arith in absurd o
+    go : (known : Option Suite) → (open_suite side known k).answer ≡ Ok tt → counts_as_open (open_suite side known k).next ≡ true
+    go (Some known) e = at_suite known (keys_fit (key_length known) k) refl e
+    go None e = let z : ◌≡◌ {A = ℕ} 0 1 = cc in let o : ⊥ = omega arith in absurd o
 
 -- ---- a command, and its response
 

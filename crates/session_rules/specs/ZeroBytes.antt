@@ -1,12 +1,12 @@
 -- Rules 8.4 and 8.5: which bytes of a session value are zero.
-use Rattle.std.specs.Prelude.{Bool, true, ◌&&◌, [], ◌∷◌, eqb, drop}
+use Rattle.std.specs.Prelude.{Bool, ◌&&◌, eqb, drop}
+use Rattle.std.specs.List.{list_all}
 use Rattle.octets.specs.Bytes.{Bytes}
 use Rattle.session_suite.specs.Suites.{key_length}
 use Rattle.session.specs.declared.Session.{Session}
 
 unfoldable pub all_zero : Bytes → Bool
-all_zero [] = true
-all_zero (b ∷ bs) = eqb b 0 && all_zero bs
+all_zero bytes = list_all (λ b. eqb b 0) bytes
 
 -- a key of the suite's length, and zeros behind it
 unfoldable pub keys_end : Session → Bool

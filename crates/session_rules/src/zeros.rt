@@ -1,67 +1,37 @@
 // Which bytes of a session value are zero (rules 8.4 and 8.5).
-ghost use Rattle.std.specs.Prelude.{◌≡◌, ◌≤◌, drop};
+ghost use Rattle.std.specs.Prelude.{◌≡◌};
 ghost use Rattle.session_rules.specs.ZeroBytes.{all_zero, keys_end, keys_zero, mcvs_zero};
 
 use session::Session;
 
+#[tactic(auto, unfolding(crate::specs::ZeroBytes::all_zero))]
 pub fn all_zero(bytes: &[u8]) -> bool
     ensures { result ≡ all_zero bytes.now }
 {
-    let mut i = 0;
-    while i < bytes.len() {
-        if bytes[i] != 0 {
-            return false;
-        }
-        i += 1;
-    }
-    true
+    bytes.iter().all(|b| *b == 0)
 }
 
-// Whether zeros stand behind the first n bytes.
-fn key_ends(key: [u8; 32], n: usize) -> bool
-    requires { n ≤ 32 }
-    ensures { result ≡ all_zero (drop n key) }
-{
-    all_zero(&key[n..])
-}
-
+// Whether each key has the suite's length, and zeros behind it.
+#[tactic(auto, using(session_suite::proofs::StoredKeys::key_length_most), unfolding(crate::specs::ZeroBytes::keys_end))]
 pub fn keys_end(session: Session) -> bool
     ensures { result ≡ keys_end session }
 {
-    let suite = session.suite;
-    let sk_enc = session.sk_enc;
-    let sk_mac = session.sk_mac;
-    let sk_rmac = session.sk_rmac;
-    let n = suite.key_length();
-    if key_ends(sk_enc, n) {
-        if key_ends(sk_mac, n) {
-            return key_ends(sk_rmac, n);
-        }
-    }
-    false
+    let n = session.suite.key_length();
+    all_zero(&session.sk_enc[n..])
+        && all_zero(&session.sk_mac[n..])
+        && all_zero(&session.sk_rmac[n..])
 }
 
+#[tactic(auto, unfolding(crate::specs::ZeroBytes::keys_zero))]
 pub fn keys_zero(session: Session) -> bool
     ensures { result ≡ keys_zero session }
 {
-    let sk_enc = session.sk_enc;
-    let sk_mac = session.sk_mac;
-    let sk_rmac = session.sk_rmac;
-    if all_zero(&sk_enc) {
-        if all_zero(&sk_mac) {
-            return all_zero(&sk_rmac);
-        }
-    }
-    false
+    all_zero(&session.sk_enc) && all_zero(&session.sk_mac) && all_zero(&session.sk_rmac)
 }
 
+#[tactic(auto, unfolding(crate::specs::ZeroBytes::mcvs_zero))]
 pub fn mcvs_zero(session: Session) -> bool
     ensures { result ≡ mcvs_zero session }
 {
-    let command_mcv = session.command_mcv;
-    let response_mcv = session.response_mcv;
-    if all_zero(&command_mcv) {
-        return all_zero(&response_mcv);
-    }
-    false
+    all_zero(&session.command_mcv) && all_zero(&session.response_mcv)
 }

@@ -3,12 +3,12 @@ use mathlib.Core.Path.{◌≡◌, refl, ap}
 use mathlib.Core.Logic.{◌⊎◌, inl, inr}
 use mathlib.Core.Bool.{true, ◌&&◌}
 use mathlib.Core.List.{◌++◌}
-use Prim.Native.Nat.{ℕ, zero, suc, ◌-◌, ◌≤◌}
-use native.Mathlib.Numerals.{unary_clauses}
+use Prim.Native.Nat.{ℕ, ◌≤◌}
 use native.Mathlib.Omega.{arith}
 use borrow.Author.Tests.{eqb-true}
 use lib.Dec.{eqb}
-use lib.ListN.{length, drop}
+use lib.ListN.{length}
+use Rattle.std.proofs.lemmas.List.{drop-replicate}
 use Rattle.octets.specs.Bytes.{Bytes, zeros}
 use Rattle.octets.specs.Write.{over}
 use Rattle.octets.proofs.Tests.{both}
@@ -49,12 +49,7 @@ one_suite Cs2 Cs7 k e f = let z : ⊥ = omega (arith, (fitting 16 k e).enc, (fit
 one_suite Cs7 Cs2 k e f = let z : ⊥ = omega (arith, (fitting 32 k e).enc, (fitting 16 k f).enc) in absurd z
 one_suite Cs7 Cs7 k e f = refl
 
-drop_zeros : (i n : ℕ) → i ≤ n → drop i (zeros n) ≡ zeros (n - i)
-drop_zeros zero n h = simp unary_clauses
-drop_zeros (suc i) zero h = let z : ⊥ = omega arith in absurd z
-drop_zeros (suc i) (suc n) h = simp unary_clauses (drop_zeros i n (omega arith))
-
 -- a key written over 32 zeros
 pub over_zeros : (key : Bytes) → length key ≤ 32 → over (zeros 32) key ≡ stored key
 unfolding over
-over_zeros key h = ap (λ (l : Bytes). key ++ l) (drop_zeros (length key) 32 h)
+over_zeros key h = ap (λ (l : Bytes). key ++ l) (drop-replicate (length key) 32 0)

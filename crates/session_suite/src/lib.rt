@@ -6,33 +6,23 @@ ghost use Rattle.std.specs.Prelude.{◌≡◌, ◌≤◌, length};
 ghost use Rattle.session_suite.specs.Suites.{key_length, number, suite_of};
 ghost use Rattle.session_suite.specs.StoredKeys.{keys, keys_fit, stored};
 
-use octets::put_bytes;
-
-// The cipher suites of SP 800-73-4 Part 2, Table 14.
-#[derive(Clone, Copy)]
+// The cipher suites of SP 800-73-4 Part 2, Table 14, with their numbers.
+#[derive(Clone, Copy, PartialEq, Eq)]
 pub enum Suite {
-    Cs2,
-    Cs7,
+    Cs2 = 2,
+    Cs7 = 7,
 }
 
-// What a suite's number stands for.
-#[derive(Clone, Copy)]
-pub enum SuiteNumber {
-    Known(Suite),
-    Unknown,
-}
-
-// The suite of that number.
-pub fn suite_of(n: u32) -> SuiteNumber
+// The suite of that number. An Option and no TryFrom: an error type of its own would say nothing, since opening answers 11
+// and reading 16.
+pub fn suite_of(n: u32) -> Option<Suite>
     ensures { result ≡ suite_of n }
 {
-    if n == 2 {
-        return SuiteNumber::Known(Suite::Cs2);
+    match n {
+        2 => Some(Suite::Cs2),
+        7 => Some(Suite::Cs7),
+        _ => None,
     }
-    if n == 7 {
-        return SuiteNumber::Known(Suite::Cs7);
-    }
-    SuiteNumber::Unknown
 }
 
 impl Suite {
@@ -49,10 +39,7 @@ impl Suite {
     pub fn number(self) -> u8
         ensures { result ≡ number self }
     {
-        match self {
-            Suite::Cs2 => 2,
-            Suite::Cs7 => 7,
-        }
+        self as u8
     }
 }
 
@@ -62,18 +49,15 @@ pub fn stored(key: &[u8]) -> [u8; 32]
     ensures { result ≡ stored key.now }
 {
     let mut bytes = [0u8; 32];
-    put_bytes(&mut bytes, 0, key);
+    bytes[..key.len()].copy_from_slice(key);
     bytes
 }
 
-// Whether each key has n bytes.
+// Whether each key has n bytes. The three keys are parameters: in a struct of three references, each clause would name a key
+// by `given.entry.enc.now`, which is no plainer.
+#[tactic(auto, unfolding(crate::specs::StoredKeys::keys_fit))]
 pub fn keys_fit(n: usize, enc: &[u8], mac: &[u8], rmac: &[u8]) -> bool
     ensures { result ≡ keys_fit n (keys enc.now mac.now rmac.now) }
 {
-    if enc.len() == n {
-        if mac.len() == n {
-            return rmac.len() == n;
-        }
-    }
-    false
+    enc.len() == n && mac.len() == n && rmac.len() == n
 }

@@ -91,25 +91,21 @@ fn changed(
     field: &mut [u8],
     change: u8,
 ) -> io::Result<()> {
-    let mut at: usize = 0;
-    while at < field.len() {
+    for at in 0..field.len() {
         let byte = field[at];
         field[at] = byte ^ change;
         row::begin_changed(rt, name, at, change)?;
         row::end(rt, read_field(wanted, field))?;
         field[at] = byte;
-        at += 1;
     }
     Ok(())
 }
 
 // The field's first bytes, from none to all but one.
 fn cut_off(rt: &impl Print, name: &[u8], wanted: Wanted, field: &[u8]) -> io::Result<()> {
-    let mut n: usize = 0;
-    while n < field.len() {
+    for n in 0..field.len() {
         row::begin_cut_off(rt, name, n)?;
         row::end(rt, read_field(wanted, &field[..n]))?;
-        n += 1;
     }
     Ok(())
 }

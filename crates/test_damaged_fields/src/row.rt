@@ -1,7 +1,7 @@
 // A row of the table: the field, what was done to it, and the reader's answer. Columns begin at 0, 9, 33, 37, 50 and 55; an accepted
 // field's objects at 50.
 use field_object::{Breach, Rule};
-use field_read::{FieldRead, Objects};
+use field_read::{FieldError, Objects};
 use std::io;
 
 pub fn head(rt: &impl Print) -> io::Result<()> {
@@ -33,11 +33,11 @@ pub fn begin_cut_off(rt: &impl Print, name: &[u8], n: usize) -> io::Result<()> {
     test_print::text(rt, b" bytes         ")
 }
 
-pub fn end(rt: &impl Print, read: FieldRead) -> io::Result<()> {
+pub fn end(rt: &impl Print, read: Result<Objects, FieldError>) -> io::Result<()> {
     match read {
-        FieldRead::Read(objects) => accepted(rt, objects),
-        FieldRead::Malformed(breach) => malformed(rt, breach),
-        FieldRead::Missing(tag, end) => place(rt, b" 8  missing      ", tag, end),
+        Ok(objects) => accepted(rt, objects),
+        Err(FieldError::Malformed(breach)) => malformed(rt, breach),
+        Err(FieldError::Missing(tag, end)) => place(rt, b" 8  missing      ", tag, end),
     }
 }
 
@@ -59,14 +59,14 @@ fn accepted(rt: &impl Print, objects: Objects) -> io::Result<()> {
 }
 
 fn malformed(rt: &impl Print, breach: Breach) -> io::Result<()> {
-    let rule = breach.rule;
-    match rule {
-        Rule::Tag => place(rt, b" 7  tag          ", breach.tag, breach.offset),
-        Rule::LengthForm => place(rt, b" 7  length form  ", breach.tag, breach.offset),
-        Rule::LengthSize => place(rt, b" 7  length size  ", breach.tag, breach.offset),
-        Rule::BytesLeft => place(rt, b" 7  bytes left   ", breach.tag, breach.offset),
-        Rule::Value => place(rt, b" 7  value        ", breach.tag, breach.offset),
-    }
+    let answer = match breach.rule {
+        Rule::Tag => b" 7  tag          ",
+        Rule::LengthForm => b" 7  length form  ",
+        Rule::LengthSize => b" 7  length size  ",
+        Rule::BytesLeft => b" 7  bytes left   ",
+        Rule::Value => b" 7  value        ",
+    };
+    place(rt, answer, breach.tag, breach.offset)
 }
 
 fn place(rt: &impl Print, answer: &[u8], tag: u8, offset: usize) -> io::Result<()> {

@@ -4,9 +4,7 @@
 // SubBytes", `s_row` "After ShiftRows", `m_col` "After MixColumns", `k_sch` "Round Key Value".
 #![tactic(auto)]
 
-ghost use Rattle.std.specs.Prelude.{◌≤◌, ◌<◌};
-
-use aes_key_expansion::KeySize;
+use aes_key_expansion::{ExpandedKey, KeySize};
 use std::io;
 
 type State = [[u8; 4]; 4];
@@ -40,102 +38,76 @@ fn main(rt: HostRuntime) -> io::Result<()> {
     appendix_c3(&rt)
 }
 
-// The first byte at which the table and the rule part, or 256.
-fn sbox_difference(table: &[u8; 256]) -> usize {
-    let mut x = 0;
-    while x < 256 {
-        if table[x] != aes_sbox::sbox_rule(x as u8) {
-            return x;
+// The first byte at which the table and the rule part.
+fn sbox_difference(table: &[u8; 256]) -> Option<u8> {
+    for x in 0..=255 {
+        if table[usize::from(x)] != aes_sbox::sbox_rule(x) {
+            return Some(x);
         }
-        x += 1;
     }
-    x
+    None
 }
 
-// The first byte that the table does not give back from what the S-box's rule makes of it, or 256.
-fn inv_sbox_difference(table: &[u8; 256]) -> usize {
-    let mut x = 0;
-    while x < 256 {
-        if table[index(aes_sbox::sbox_rule(x as u8))] != x as u8 {
-            return x;
+// The first byte that the table does not give back from what the S-box's rule makes of it.
+fn inv_sbox_difference(table: &[u8; 256]) -> Option<u8> {
+    for x in 0..=255 {
+        if table[usize::from(aes_sbox::sbox_rule(x))] != x {
+            return Some(x);
         }
-        x += 1;
     }
-    x
+    None
 }
 
-fn index(value: u8) -> usize
-    ensures { result < 256 }
-{
-    value as usize
-}
-
-fn report(rt: &impl Print, table: &[u8], difference: usize) -> io::Result<()> {
+fn report(rt: &impl Print, table: &[u8], difference: Option<u8>) -> io::Result<()> {
     test_print::text(rt, table)?;
-    if difference == 256 {
-        test_print::text(rt, b" 256 entries agree with the rule\n")?;
-    } else {
-        test_print::text(rt, b" differs from the rule at byte ")?;
-        test_print::number(rt, difference)?;
-        test_print::newline(rt)?;
-    }
-    Ok(())
+    let Some(byte) = difference else {
+        return test_print::text(rt, b" 256 entries agree with the rule\n");
+    };
+    test_print::text(rt, b" differs from the rule at byte ")?;
+    test_print::number(rt, usize::from(byte))?;
+    test_print::newline(rt)
 }
 
 fn appendix_a1(rt: &impl Print) -> io::Result<()> {
-    let w = aes_key_expansion::key_expansion(KeySize::Aes128, KEY_A1);
-    key_schedule(rt, b"FIPS 197 A.1 AES-128", &w, 44)
+    let key = ExpandedKey::new(KeySize::Aes128, KEY_A1);
+    key_schedule(rt, b"FIPS 197 A.1 AES-128", &key.words[..44])
 }
 
 fn appendix_a3(rt: &impl Print) -> io::Result<()> {
-    let w = aes_key_expansion::key_expansion(KeySize::Aes256, KEY_A3);
-    key_schedule(rt, b"FIPS 197 A.3 AES-256", &w, 60)
+    let key = ExpandedKey::new(KeySize::Aes256, KEY_A3);
+    key_schedule(rt, b"FIPS 197 A.3 AES-256", &key.words)
 }
 
 fn appendix_b(rt: &impl Print) -> io::Result<()> {
     let source = b"FIPS 197 B AES-128";
-    let w = aes_key_expansion::key_expansion(KeySize::Aes128, KEY_A1);
-    cipher(rt, source, 10, &w, aes_state::state_of(INPUT_B))?;
-    let output = aes::encrypt_block(KeySize::Aes128, &w, INPUT_B);
+    let key = ExpandedKey::new(KeySize::Aes128, KEY_A1);
+    cipher(rt, source, &key, aes_state::state_of(INPUT_B))?;
+    let output = aes::encrypt_block(&key, INPUT_B);
     test_print::value(rt, source, b" encrypt ", output)
 }
 
 fn appendix_c1(rt: &impl Print) -> io::Result<()> {
-    let w = aes_key_expansion::key_expansion(KeySize::Aes128, KEY_C1);
-    example_vectors(rt, b"FIPS 197 C.1 AES-128", KeySize::Aes128, 10, &w)
+    let key = ExpandedKey::new(KeySize::Aes128, KEY_C1);
+    example_vectors(rt, b"FIPS 197 C.1 AES-128", &key)
 }
 
 fn appendix_c3(rt: &impl Print) -> io::Result<()> {
-    let w = aes_key_expansion::key_expansion(KeySize::Aes256, KEY_C3);
-    example_vectors(rt, b"FIPS 197 C.3 AES-256", KeySize::Aes256, 14, &w)
+    let key = ExpandedKey::new(KeySize::Aes256, KEY_C3);
+    example_vectors(rt, b"FIPS 197 C.3 AES-256", &key)
 }
 
-fn example_vectors(
-    rt: &impl Print,
-    source: &[u8],
-    size: KeySize,
-    rounds: usize,
-    w: &[[u8; 4]; 60],
-) -> io::Result<()>
-    requires rounds_nonzero { 0 < rounds }
-    requires rounds_bound { rounds < 15 }
-{
-    let output = aes::encrypt_block(size, w, INPUT_C);
-    let back = aes::decrypt_block(size, w, output);
-    cipher(rt, source, rounds, w, aes_state::state_of(INPUT_C))?;
-    inv_cipher(rt, source, rounds, w, aes_state::state_of(output))?;
+fn example_vectors(rt: &impl Print, source: &[u8], key: &ExpandedKey) -> io::Result<()> {
+    let output = aes::encrypt_block(key, INPUT_C);
+    let back = aes::decrypt_block(key, output);
+    cipher(rt, source, key, aes_state::state_of(INPUT_C))?;
+    inv_cipher(rt, source, key, aes_state::state_of(output))?;
     test_print::value(rt, source, b" encrypt ", output)?;
     test_print::value(rt, source, b" decrypt ", back)
 }
 
-// The first `count` words of the key schedule.
-fn key_schedule(rt: &impl Print, source: &[u8], w: &[[u8; 4]; 60], count: usize) -> io::Result<()>
-    requires { count ≤ 60 }
-{
-    let mut i = 0;
-    while i < count {
-        schedule_word(rt, source, i, w[i])?;
-        i += 1;
+fn key_schedule(rt: &impl Print, source: &[u8], words: &[[u8; 4]]) -> io::Result<()> {
+    for (i, word) in words.iter().enumerate() {
+        schedule_word(rt, source, i, *word)?;
     }
     Ok(())
 }
@@ -145,43 +117,19 @@ fn schedule_word(rt: &impl Print, source: &[u8], i: usize, word: [u8; 4]) -> io:
     test_print::text(rt, b" w[")?;
     test_print::number(rt, i)?;
     test_print::text(rt, b"] ")?;
-    test_print::word(rt, word)?;
+    test_print::bytes(rt, &word)?;
     test_print::newline(rt)
 }
 
 // The cipher of 5.1, written out step by step.
-fn cipher(
-    rt: &impl Print,
-    source: &[u8],
-    rounds: usize,
-    w: &[[u8; 4]; 60],
-    input: State,
-) -> io::Result<()>
-    requires rounds_nonzero { 0 < rounds }
-    requires rounds_bound { rounds < 15 }
-{
+fn cipher(rt: &impl Print, source: &[u8], key: &ExpandedKey, input: State) -> io::Result<()> {
+    let rounds = key.size.rounds();
     step(rt, source, 0, b".input ", input)?;
-    let mut s = key_added(
-        rt,
-        source,
-        0,
-        b".k_sch ",
-        input,
-        aes_key_expansion::round_key(w, 0),
-    )?;
-    let mut round = 1;
-    while round < rounds {
-        let next = full_round(rt, source, round, s, aes_key_expansion::round_key(w, round))?;
-        s = next;
-        round += 1;
+    let mut s = key_added(rt, source, 0, b".k_sch ", input, key.round_key(0))?;
+    for round in 1..rounds {
+        s = full_round(rt, source, round, s, key.round_key(round))?;
     }
-    last_round(
-        rt,
-        source,
-        rounds,
-        s,
-        aes_key_expansion::round_key(w, rounds),
-    )
+    last_round(rt, source, rounds, s, key.round_key(rounds))
 }
 
 fn full_round(
@@ -225,38 +173,14 @@ fn substituted_and_shifted(
 }
 
 // The inverse cipher of 5.3, written out step by step.
-fn inv_cipher(
-    rt: &impl Print,
-    source: &[u8],
-    rounds: usize,
-    w: &[[u8; 4]; 60],
-    input: State,
-) -> io::Result<()>
-    requires rounds_nonzero { 0 < rounds }
-    requires rounds_bound { rounds < 15 }
-{
+fn inv_cipher(rt: &impl Print, source: &[u8], key: &ExpandedKey, input: State) -> io::Result<()> {
+    let rounds = key.size.rounds();
     step(rt, source, 0, b".iinput ", input)?;
-    let mut s = key_added(
-        rt,
-        source,
-        0,
-        b".ik_sch ",
-        input,
-        aes_key_expansion::round_key(w, rounds),
-    )?;
-    let mut round = 1;
-    while round < rounds {
-        let next = inv_full_round(
-            rt,
-            source,
-            round,
-            s,
-            aes_key_expansion::round_key(w, rounds - round),
-        )?;
-        s = next;
-        round += 1;
+    let mut s = key_added(rt, source, 0, b".ik_sch ", input, key.round_key(rounds))?;
+    for round in 1..rounds {
+        s = inv_full_round(rt, source, round, s, key.round_key(rounds - round))?;
     }
-    inv_last_round(rt, source, rounds, s, aes_key_expansion::round_key(w, 0))
+    inv_last_round(rt, source, rounds, s, key.round_key(0))
 }
 
 fn inv_full_round(

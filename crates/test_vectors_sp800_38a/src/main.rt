@@ -1,9 +1,7 @@
 // SP 800-38A appendix F.2: the CBC examples for AES-128 and AES-256, block by block.
 #![tactic(auto)]
 
-ghost use Rattle.std.specs.Prelude.{◌≤◌};
-
-use aes_key_expansion::KeySize;
+use aes_key_expansion::{ExpandedKey, KeySize};
 use std::io;
 
 // A 16-byte key stands in the first half.
@@ -21,8 +19,8 @@ const PLAINTEXT: [u8; 64] = *b"\x6b\xc1\xbe\xe2\x2e\x40\x9f\x96\xe9\x3d\x7e\x11\
     \xf6\x9f\x24\x45\xdf\x4f\x9b\x17\xad\x2b\x41\x7b\xe6\x6c\x37\x10";
 
 fn main(rt: HostRuntime) -> io::Result<()> {
-    let w = aes_key_expansion::key_expansion(KeySize::Aes128, KEY_128);
-    let ciphertext = encrypted(KeySize::Aes128, &w, PLAINTEXT);
+    let key = ExpandedKey::new(KeySize::Aes128, KEY_128);
+    let ciphertext = encrypted(&key, PLAINTEXT);
     blocks(
         &rt,
         b"SP 800-38A F.2.1 CBC-AES128.Encrypt",
@@ -30,7 +28,7 @@ fn main(rt: HostRuntime) -> io::Result<()> {
         &ciphertext,
     )?;
     // F.2.2 decrypts what F.2.1 encrypts, and F.2.6 what F.2.5 does.
-    let plaintext = decrypted(KeySize::Aes128, &w, ciphertext);
+    let plaintext = decrypted(&key, ciphertext);
     blocks(
         &rt,
         b"SP 800-38A F.2.2 CBC-AES128.Decrypt",
@@ -38,15 +36,15 @@ fn main(rt: HostRuntime) -> io::Result<()> {
         &plaintext,
     )?;
 
-    let w = aes_key_expansion::key_expansion(KeySize::Aes256, KEY_256);
-    let ciphertext = encrypted(KeySize::Aes256, &w, PLAINTEXT);
+    let key = ExpandedKey::new(KeySize::Aes256, KEY_256);
+    let ciphertext = encrypted(&key, PLAINTEXT);
     blocks(
         &rt,
         b"SP 800-38A F.2.5 CBC-AES256.Encrypt",
         b" ciphertext ",
         &ciphertext,
     )?;
-    let plaintext = decrypted(KeySize::Aes256, &w, ciphertext);
+    let plaintext = decrypted(&key, ciphertext);
     blocks(
         &rt,
         b"SP 800-38A F.2.6 CBC-AES256.Decrypt",
@@ -55,49 +53,36 @@ fn main(rt: HostRuntime) -> io::Result<()> {
     )
 }
 
-fn encrypted(size: KeySize, w: &[[u8; 4]; 60], plaintext: [u8; 64]) -> [u8; 64] {
+fn encrypted(key: &ExpandedKey, plaintext: [u8; 64]) -> [u8; 64] {
     let mut data = plaintext;
-    mode_cbc::encrypt(size, w, IV, &mut data);
+    let _ = mode_cbc::encrypt(key, IV, &mut data);
     data
 }
 
-fn decrypted(size: KeySize, w: &[[u8; 4]; 60], ciphertext: [u8; 64]) -> [u8; 64] {
+fn decrypted(key: &ExpandedKey, ciphertext: [u8; 64]) -> [u8; 64] {
     let mut data = ciphertext;
-    mode_cbc::decrypt(size, w, IV, &mut data);
+    let _ = mode_cbc::decrypt(key, IV, &mut data);
     data
 }
 
 fn blocks(rt: &impl Print, source: &[u8], name: &[u8], data: &[u8; 64]) -> io::Result<()> {
-    block(rt, source, b"1", name, data, 0)?;
-    block(rt, source, b"2", name, data, 16)?;
-    block(rt, source, b"3", name, data, 32)?;
-    block(rt, source, b"4", name, data, 48)
+    block(rt, source, b"1", name, &data[..16])?;
+    block(rt, source, b"2", name, &data[16..32])?;
+    block(rt, source, b"3", name, &data[32..48])?;
+    block(rt, source, b"4", name, &data[48..])
 }
 
-// The block of data that starts at `at`.
 fn block(
     rt: &impl Print,
     source: &[u8],
     number: &[u8],
     name: &[u8],
-    data: &[u8; 64],
-    at: usize,
-) -> io::Result<()>
-    requires { at ≤ 48 }
-{
+    block: &[u8],
+) -> io::Result<()> {
     test_print::text(rt, source)?;
     test_print::text(rt, b" block #")?;
     test_print::text(rt, number)?;
     test_print::text(rt, name)?;
-    word(rt, data, at)?;
-    word(rt, data, at + 4)?;
-    word(rt, data, at + 8)?;
-    word(rt, data, at + 12)?;
+    test_print::bytes(rt, block)?;
     test_print::newline(rt)
-}
-
-fn word(rt: &impl Print, data: &[u8; 64], at: usize) -> io::Result<()>
-    requires { at ≤ 60 }
-{
-    test_print::word(rt, [data[at], data[at + 1], data[at + 2], data[at + 3]])
 }

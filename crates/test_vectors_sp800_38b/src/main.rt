@@ -1,7 +1,7 @@
 // SP 800-38B appendix D: the CMAC examples for AES-128 (D.1) and AES-256 (D.3).
 #![tactic(auto)]
 
-use aes_key_expansion::KeySize;
+use aes_key_expansion::{ExpandedKey, KeySize};
 use mode_cmac::Cmac;
 use std::io;
 
@@ -18,103 +18,84 @@ const MESSAGE: [u8; 64] = *b"\x6b\xc1\xbe\xe2\x2e\x40\x9f\x96\xe9\x3d\x7e\x11\x7
     \xf6\x9f\x24\x45\xdf\x4f\x9b\x17\xad\x2b\x41\x7b\xe6\x6c\x37\x10";
 
 fn main(rt: HostRuntime) -> io::Result<()> {
-    let w = aes_key_expansion::key_expansion(KeySize::Aes128, KEY_128);
+    let key = ExpandedKey::new(KeySize::Aes128, KEY_128);
     test_print::text(&rt, b"SP 800-38B D.1 AES-128 K ")?;
-    test_print::state(&rt, aes_key_expansion::round_key(&w, 0))?;
+    test_print::state(&rt, key.round_key(0))?;
     test_print::newline(&rt)?;
-    subkeys(&rt, b"SP 800-38B D.1 AES-128", KeySize::Aes128, &w)?;
+    subkeys(&rt, b"SP 800-38B D.1 AES-128", &key)?;
     let message = MESSAGE;
     example(
         &rt,
         b"SP 800-38B D.1 AES-128 Example 1 Mlen=0",
-        KeySize::Aes128,
-        &w,
+        &key,
         &message[..0],
     )?;
     example(
         &rt,
         b"SP 800-38B D.1 AES-128 Example 2 Mlen=128",
-        KeySize::Aes128,
-        &w,
+        &key,
         &message[..16],
     )?;
     example(
         &rt,
         b"SP 800-38B D.1 AES-128 Example 3 Mlen=320",
-        KeySize::Aes128,
-        &w,
+        &key,
         &message[..40],
     )?;
     example(
         &rt,
         b"SP 800-38B D.1 AES-128 Example 4 Mlen=512",
-        KeySize::Aes128,
-        &w,
+        &key,
         &message,
     )?;
 
-    let w = aes_key_expansion::key_expansion(KeySize::Aes256, KEY_256);
+    let key = ExpandedKey::new(KeySize::Aes256, KEY_256);
     test_print::text(&rt, b"SP 800-38B D.3 AES-256 K ")?;
-    test_print::state(&rt, aes_key_expansion::round_key(&w, 0))?;
-    test_print::state(&rt, aes_key_expansion::round_key(&w, 1))?;
+    test_print::state(&rt, key.round_key(0))?;
+    test_print::state(&rt, key.round_key(1))?;
     test_print::newline(&rt)?;
-    subkeys(&rt, b"SP 800-38B D.3 AES-256", KeySize::Aes256, &w)?;
+    subkeys(&rt, b"SP 800-38B D.3 AES-256", &key)?;
     let message = MESSAGE;
     example(
         &rt,
         b"SP 800-38B D.3 AES-256 Example 9 Mlen=0",
-        KeySize::Aes256,
-        &w,
+        &key,
         &message[..0],
     )?;
     example(
         &rt,
         b"SP 800-38B D.3 AES-256 Example 10 Mlen=128",
-        KeySize::Aes256,
-        &w,
+        &key,
         &message[..16],
     )?;
     example(
         &rt,
         b"SP 800-38B D.3 AES-256 Example 11 Mlen=320",
-        KeySize::Aes256,
-        &w,
+        &key,
         &message[..40],
     )?;
     example(
         &rt,
         b"SP 800-38B D.3 AES-256 Example 12 Mlen=512",
-        KeySize::Aes256,
-        &w,
+        &key,
         &message,
     )
 }
 
 // CIPH_K(0), of which 6.1 makes the subkeys, and these.
-fn subkeys(rt: &impl Print, source: &[u8], size: KeySize, w: &[[u8; 4]; 60]) -> io::Result<()> {
-    test_print::value(
-        rt,
-        source,
-        b" CIPH_K(0) ",
-        aes::encrypt_block(size, w, [0; 16]),
-    )?;
-    test_print::value(rt, source, b" K1 ", mode_cmac::subkey1(size, w))?;
-    test_print::value(rt, source, b" K2 ", mode_cmac::subkey2(size, w))
+fn subkeys(rt: &impl Print, source: &[u8], key: &ExpandedKey) -> io::Result<()> {
+    test_print::value(rt, source, b" CIPH_K(0) ", aes::encrypt_block(key, [0; 16]))?;
+    test_print::value(rt, source, b" K1 ", mode_cmac::subkey1(key))?;
+    test_print::value(rt, source, b" K2 ", mode_cmac::subkey2(key))
 }
 
 // The MAC of a message, absorbed whole, and again as its first 7 bytes and the rest.
-fn example(
-    rt: &impl Print,
-    source: &[u8],
-    size: KeySize,
-    w: &[[u8; 4]; 60],
-    message: &[u8],
-) -> io::Result<()> {
-    let absorbed = Cmac::start().absorb(size, w, message);
-    test_print::value(rt, source, b" T ", absorbed.finish(size, w))?;
+fn example(rt: &impl Print, source: &[u8], key: &ExpandedKey, message: &[u8]) -> io::Result<()> {
+    let absorbed = Cmac::start().absorb(key, message);
+    test_print::value(rt, source, b" T ", absorbed.finish(key))?;
     // 7, or the length of a shorter message.
     let cut = message.len().min(7);
-    let first = Cmac::start().absorb(size, w, &message[..cut]);
-    let both = first.absorb(size, w, &message[cut..]);
-    test_print::value(rt, source, b" T, M in two parts ", both.finish(size, w))
+    let first = Cmac::start().absorb(key, &message[..cut]);
+    let both = first.absorb(key, &message[cut..]);
+    test_print::value(rt, source, b" T, M in two parts ", both.finish(key))
 }

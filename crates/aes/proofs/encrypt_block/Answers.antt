@@ -9,5 +9,5 @@ use Rattle.aes.proofs.encrypt_block.Goals as goal
 pub returns : goal.returns
 unfolding ciph
 returns c =
-    let a = c.args in
-    c.bytes_of.ensures ∙ ap bytes_of (c.cipher.ensures ∙ ap (cipher (nr a.size) a.w.now) c.state_of.ensures)
+    let key = c.args.key.now in
+    c.bytes_of.ensures ∙ ap bytes_of (c.cipher.ensures ∙ ap (cipher (nr key.size) key.words) c.state_of.ensures)

@@ -15,7 +15,7 @@ loop-round-preserved c =
     let a = c.args in
     let L = c.loop-round in (
       omega arith,
-      inv_rounds_less a.w.now L.x L.round c.loop-round-test.true c.inv_shift_rows.ensures
+      inv_rounds_less a.key.now.words L.x L.round c.loop-round-test.true c.inv_shift_rows.ensures
           (c.sub_bytes-substituted.ensures inv_s_box c.requires.table) c.round_key.ensures c.add_round_key.ensures c.inv_mix_columns-x.ensures
           ∙ L.invariant.1,
     )

@@ -1,6 +1,5 @@
 -- `key_expansion` meets its contract: before each turn the first i words are made, and the others are zero.
-use borrow.Author.Rules.{rules}
-use mathlib.Core.Path.{◌≡◌, ap₂, ◌∙◌}
+use mathlib.Core.Path.{◌≡◌, refl, ap₂, ◌∙◌}
 use Prim.Native.Nat.{ℕ, ◌+◌, ◌*◌}
 use native.Mathlib.Omega.{arith}
 use lib.ListN.{length-set}
@@ -18,7 +17,7 @@ overflow_add-end c = omega (arith, bounds c.args.size)
 
 pub loop-i-init : goal.loop-i-init
 loop-i-init c =
-    (search rules, search rules, filled_none c.nk-n.result c.args.key)
+    (refl, filled_none c.nk-n.result c.args.key)
 
 pub next_word-requires : goal.next_word-requires
 next_word-requires c =
@@ -32,19 +31,14 @@ pub bounds-w-i : goal.bounds-w-i
 bounds-w-i c =
     omega (arith, bounds c.args.size, c.rounds.ensures)
 
-pub overflow_add-i : goal.overflow_add-i
-overflow_add-i c =
-    omega (arith, bounds c.args.size, c.rounds.ensures)
-
 pub loop-i-preserved : goal.loop-i-preserved
 loop-i-preserved c =
     let a = c.args in
     let L = c.loop-i in
     let n = c.nk-n in
     let e : n.result ≡ nk a.size = n.ensures in (
-      omega arith,
-      simp length-set L.invariant.1,
-      filled_more n.result a.key L.i (omega (arith, bounds a.size, e)) (omega (arith, bounds a.size, c.rounds.ensures)) L.invariant.2 c.next_word.ensures,
+      simp length-set L.invariant.0,
+      filled_more n.result a.key L.i (omega (arith, bounds a.size, e)) (omega (arith, bounds a.size, c.rounds.ensures)) L.invariant.1 c.next_word.ensures,
     )
 
 pub returns : goal.returns
@@ -53,7 +47,4 @@ returns c =
     let a = c.args in
     let L = c.loop-i in
     let e : L.i ≡ 4 * nr a.size + 4 = omega (arith, c.rounds.ensures) in
-    L.invariant.2 ∙ ap₂ (λ (n i : ℕ). filled n a.key i) c.nk-n.ensures e
-
-pub loop-i-smaller : goal.loop-i-smaller
-loop-i-smaller c = omega arith
+    L.invariant.1 ∙ ap₂ (λ (n i : ℕ). filled n a.key i) c.nk-n.ensures e

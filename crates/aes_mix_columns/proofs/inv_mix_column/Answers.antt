@@ -8,7 +8,7 @@ pub returns : goal.returns
 unfolding inv_mix_column
 returns c =
     four
-    (sum c.times_0e.ensures c.times_0b.ensures c.times_0d.ensures c.times_09.ensures)
-    (sum c.times_09-2.ensures c.times_0e-2.ensures c.times_0b-2.ensures c.times_0d-2.ensures)
-    (sum c.times_0d-3.ensures c.times_09-3.ensures c.times_0e-3.ensures c.times_0b-3.ensures)
-    (sum c.times_0b-4.ensures c.times_0d-4.ensures c.times_09-4.ensures c.times_0e-4.ensures)
+    (sum c.times.ensures c.times-2.ensures c.times-3.ensures c.times-4.ensures)
+    (sum c.times-5.ensures c.times-6.ensures c.times-7.ensures c.times-8.ensures)
+    (sum c.times-9.ensures c.times-10.ensures c.times-11.ensures c.times-12.ensures)
+    (sum c.times-13.ensures c.times-14.ensures c.times-15.ensures c.times-16.ensures)

@@ -13,7 +13,7 @@ returns c =
     let s = c.args.s in
     let same : (r : ℕ) → get_or s r 0 ≡ get_or s r 0 = λ r. refl in
     four
-    (sum c.times_02.ensures c.times_03.ensures (same 2) (same 3))
-    (sum (same 0) c.times_02-2.ensures c.times_03-2.ensures (same 3))
-    (sum (same 0) (same 1) c.times_02-3.ensures c.times_03-3.ensures)
-    (sum c.times_03-4.ensures (same 1) (same 2) c.times_02-4.ensures)
+    (sum c.times.ensures c.times-2.ensures (same 2) (same 3))
+    (sum (same 0) c.times-3.ensures c.times-4.ensures (same 3))
+    (sum (same 0) (same 1) c.times-5.ensures c.times-6.ensures)
+    (sum c.times-7.ensures (same 1) (same 2) c.times-8.ensures)

@@ -1,15 +1,10 @@
 -- `pivsm_open_card` meets its contract: the opening, and its session saved.
-use mathlib.Core.Path.{sym, ap, subst, ◌∙◌}
+use mathlib.Core.Path.{sym, subst}
 use Rattle.session.specs.declared.Side.TheVariants.{Card}
-use Rattle.capi_open.specs.Call.{OpenedValid, leaves_opened}
+use Rattle.capi_open.specs.Call.{OpenedValid}
 use Rattle.capi_open.proofs.Saved.{opened_valid}
 use Rattle.capi_open.proofs.pivsm_open_card.Goals as goal
 
 pub put_opened-requires : goal.put_opened-requires
 put_opened-requires c =
     subst OpenedValid (sym c.open_card.ensures.opened) (opened_valid Card _ _)
-
-pub returns : goal.returns
-returns c =
-    let a = c.args in
-    record { call = c.put_opened.ensures ∙ ap (leaves_opened a.session.now) c.open_card.ensures.opened; bytes = c.open_card.ensures.bytes }

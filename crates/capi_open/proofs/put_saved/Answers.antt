@@ -1,28 +1,22 @@
 -- `put_saved` meets its contract: the session's bytes, or no room.
-use mathlib.Core.Path.{sym, ap, ◌∙◌}
+use Rattle.std.proofs.Common.{rules}
+use mathlib.Core.Path.{sym, ◌∙◌}
 use lib.ListN.{length}
-use Rattle.session_bytes.specs.Saved.{session_size}
 use Rattle.session_bytes.specs.Saving.{encoded_in}
 use Rattle.message_answer.specs.Answer.{buffer}
-use Rattle.capi_open.specs.Call.{left, leaves}
-use Rattle.capi_open.proofs.Saved.{left_refused, not_saved, was_saved}
+use Rattle.capi_open.proofs.Saved.{not_saved, was_saved}
 use Rattle.capi_open.proofs.put_saved.Goals as goal
 
-pub returns-in-Encoded : goal.returns-in-Encoded
+pub returns-in-Ok : goal.returns-in-Ok
 unfolding buffer encoded_in
-returns-in-Encoded c =
+returns-in-Ok c =
     let a = c.args in
-    let told = c.in-Encoded.is in
-    let e = was_saved a.fresh c.requires (length a.session.now) (sym c.encode-saving.ensures.answer ∙ told) in
-    let bytes = c.encode-saving.ensures.output ∙ ap (λ x. encoded_in a.session.now x a.fresh) told in
-    (λ i. left 0 (bytes i) session_size) ∙ ap (leaves a.session.now) (sym e)
+    let e = was_saved a.fresh c.requires (length a.session.now) _ (sym c.encode.ensures.answer ∙ c.in-Ok.is) in
+    search rules
 
-pub returns-in-Refused : goal.returns-in-Refused
-unfolding encoded_in
-returns-in-Refused c =
+pub returns-in-Err : goal.returns-in-Err
+unfolding buffer encoded_in
+returns-in-Err c =
     let a = c.args in
-    let told = c.in-Refused.is in
-    let e = not_saved a.fresh c.requires (length a.session.now) _ (sym c.encode-saving.ensures.answer ∙ told) in
-    let bytes = c.encode-saving.ensures.output ∙ ap (λ x. encoded_in a.session.now x a.fresh) told in
-    (λ i. left c.put_refused.result (bytes i) c.put_refused.new.len)
-    ∙ left_refused a.session.now _ _ _ _ e c.put_refused.ensures.number c.put_refused.ensures.len
+    let e = not_saved a.fresh c.requires (length a.session.now) _ (sym c.encode.ensures.answer ∙ c.in-Err.is) in
+    search rules

@@ -1,63 +1,37 @@
 -- `pivsm_unwrap_command` meets its contract: the unwrap on the session that was read, or 16.
-use mathlib.Core.Path.{◌≡◌, refl, ap, ◌∙◌}
+use Rattle.std.proofs.Common.{rules}
+use mathlib.Core.Path.{refl, sym, ap, ◌∙◌}
 use lib.ListN.{length}
-use Rattle.octets.specs.Bytes.{Bytes}
+use Rattle.refusal.specs.declared.Answered.{Answered}
 use Rattle.session.specs.declared.Session.{Session}
-use Rattle.message_answer.specs.Answer.{Out}
-use Rattle.message_answer.specs.Message.{CommandGiven}
+use Rattle.message_answer.specs.Answer.{buffer}
 use Rattle.message_ciphers.specs.Aes.{aes_ciphers}
 use Rattle.message_protocol.specs.Command.{card_unwraps}
 use Rattle.message_result.specs.Results.{command_answer}
-use Rattle.message_result.specs.declared.CommandResult.{CommandResult}
+use Rattle.message_result.specs.declared.AcceptedCommand.{AcceptedCommand}
 use Rattle.capi_values.specs.Values.{command_values}
-use Rattle.capi_values.specs.declared.Values.{Values}
 use Rattle.capi_values.proofs.Numbers.{command_number}
-use Rattle.capi_session.specs.SessionBytes.{Served, Held}
-use Rattle.capi_session.proofs.Serving.{Gives, read_valid, was_replaced, was_not_read, has_room}
-use Rattle.capi_unwrap_command.specs.Call.{Given, given, left, leaves}
+use Rattle.capi_session.specs.SessionBytes.{served_by}
+use Rattle.capi_session.proofs.Serving.{read_from, was_replaced}
+use Rattle.capi_unwrap_command.specs.Call.{given, left}
 use Rattle.capi_unwrap_command.proofs.pivsm_unwrap_command.Goals as goal
 
--- the call, of a session
-abbrev call : Given → Session → Out CommandGiven
-call g s = card_unwraps aes_ciphers s g.ins g.p1 g.p2 g.field (length g.payload)
-
-left_is : (before : Bytes) (x : Served Held CommandGiven) (v : Values) (h : Held) (after : Bytes)
-    → Gives (λ a. command_values (command_answer a)) (λ m. m.payload) before x v h after
-    → left v.number h.bytes h.len after v.len v.le ≡ leaves before x
-left_is before x v h after g i =
-    left (g.numbers i).number (g.holds i).bytes (g.holds i).len (g.output i) (g.numbers i).len (g.numbers i).le
-
-pub unwrap_command_with_valid_session-result-requires : goal.unwrap_command_with_valid_session-result-requires
-unwrap_command_with_valid_session-result-requires c =
-    read_valid _ _ c.session_in-decoded.ensures.decoded c.in-Decoded.is
-
 pub replace_session-requires : goal.replace_session-requires
-replace_session-requires c =
-    let a = c.args in
-    let g = given a.session.now a.len.now a.ins a.p1 a.p2 a.field.now a.payload.now in
-    has_room (λ x. command_values (command_answer x)) (λ m. m.payload) g.payload g.held (call g) _
-    c.session_in-decoded.ensures.decoded c.in-Decoded.is
+replace_session-requires c = (read_from _ _ (sym c.session_in.ensures.decoded ∙ c.in-Ok.is)).room
 
-pub returns-in-Decoded : goal.returns-in-Decoded
+pub returns-in-Ok-clause-call : goal.returns-in-Ok-clause-call
 unfolding card_unwraps
-returns-in-Decoded c =
+returns-in-Ok-clause-call c =
     let a = c.args in
     let g = given a.session.now a.len.now a.ins a.p1 a.p2 a.field.now a.payload.now in
-    let r = c.unwrap_command_with_valid_session-result.ensures in record {
-      call = left_is _ _ _ _ _
-          (was_replaced (λ x. command_values (command_answer x)) (λ m. m.payload) g.payload g.held (call g) _
-          c.session_in-decoded.ensures.decoded c.in-Decoded.is c.session_in-decoded.ensures.bytes _ refl command_number _ _ _ _
-          (c.command_values-values.ensures ∙ ap (λ (x : CommandResult). command_values x.answer) r.result)
-          (ap (λ (x : CommandResult). x.session) r.result) c.replace_session.ensures r.output);
-      bytes = c.session_in-decoded.ensures.bytes;
-    }
+    let r = c.unwrap_command-result.ensures in
+    let gives =
+    was_replaced (λ x. command_values (command_answer x)) (λ m. m.payload) g.payload g.held (λ s. card_unwraps aes_ciphers s g.header g.field (length g.payload)) _
+    (sym c.session_in.ensures.decoded ∙ c.in-Ok.is) c.session_in.ensures.bytes _ refl command_number _ _ _ _
+    (c.values-values.ensures ∙ ap (λ (x : Answered AcceptedCommand Session). command_values x.answer) r.result)
+    (ap (λ (x : Answered AcceptedCommand Session). x.next) r.result) c.replace_session.ensures r.output in
+    λ i. left (gives.numbers i).number (gives.holds i).bytes (gives.holds i).len (gives.output i) (gives.numbers i).len (gives.numbers i).le
 
-pub returns-in-Refused : goal.returns-in-Refused
-returns-in-Refused c =
-    let a = c.args in
-    let g = given a.session.now a.len.now a.ins a.p1 a.p2 a.field.now a.payload.now in record {
-      call = left_is _ _ _ _ _
-          (was_not_read (λ x. command_values (command_answer x)) (λ m. m.payload) g.payload g.held (call g) _
-          c.session_in-decoded.ensures.decoded _ c.in-Refused.is _ c.refusal_values-values.ensures);
-      bytes = c.session_in-decoded.ensures.bytes;
-    }
+pub returns-in-Err-clause-call : goal.returns-in-Err-clause-call
+unfolding served_by buffer
+returns-in-Err-clause-call c = let read = sym c.session_in.ensures.decoded ∙ c.in-Err.is in search rules

@@ -1,58 +1,51 @@
 -- `read_length` meets its contract: one case for each form, and for each way to be cut off.
-use mathlib.Core.Path.{sym, ap, ap₂, ◌∙◌}
-use Prim.Native.Nat.{ℕ, ◌+◌, ◌*◌, ◌≤◌}
+use mathlib.Core.Path.{sym, ap, ◌∙◌}
+use Prim.Native.Nat.{ℕ, ◌≤◌}
 use native.Mathlib.Omega.{arith}
-use borrow.Author.Tests.{eq-eqb, ne_eqb, lt-ltb, le-ltb}
 use lib.ListN.{length}
-use Rattle.field_ber_length.specs.Length.{read_length}
-use Rattle.field_ber_length.specs.declared.LengthRead.TheVariants.{Length}
-use Rattle.field_ber_length.proofs.LengthForms.{read_one, read_two, read_three}
+use borrow.Author.Rules.{rules}
+use borrow.Author.Tests.{le-ltb}
+use Rattle.field_ber_length.specs.Length.{found, read_length}
+use Rattle.field_ber_length.proofs.LengthForms.{rest_none, rest_one, rest_two, rest_three, rest_bad}
 use Rattle.field_ber_length.proofs.read_length.Goals as goal
 
-pub returns-then-end-at : goal.returns-then-end-at
+pub returns-in_err-get : goal.returns-in_err-get
 unfolding read_length
-returns-then-end-at c = simp (le-ltb _ _ c.if-end-at.true)
-
-pub returns-then-b-lt128 : goal.returns-then-b-lt128
-returns-then-b-lt128 c =
+returns-in_err-get c =
     let a = c.args in
-    ap (λ (n : ℕ). Length n 1) c.wide.ensures ∙ sym (read_one a.bytes.now a.at c.if-end-at.false c.if-b-lt128.true)
+    let h : length a.bytes.now ≤ a.at = omega (arith, c.in_err-get.ensures.lookup.0) in
+    c.from_residual.ensures ∙ sym (simp (le-ltb _ _ h))
 
-pub returns-then-end-at-le1 : goal.returns-then-end-at-le1
-unfolding read_length
-returns-then-end-at-le1 c =
-    let a = c.args in
-    let h : length a.bytes.now ≤ a.at + 1 = omega arith in
-    simp (lt-ltb _ _ c.if-end-at.false, le-ltb _ _ c.if-b-lt128.false, eq-eqb _ _ c.if-b.true, le-ltb _ _ h)
+pub returns-in-len1-up : goal.returns-in-len1-up
+returns-in-len1-up c =
+    let r = c.in_ok-get.ensures.lookup.0 in
+    ap (λ (n : ℕ). found n 1) c.from.ensures ∙ rest_one _ _ _ r.2 r.3 c.in-len1-up.len_at_least c.if-first-lt128.true
 
-pub returns-then-b : goal.returns-then-b
-returns-then-b c =
-    let a = c.args in
-    ap (λ (n : ℕ). Length n 2) c.wide-then-b.ensures ∙ sym (read_two a.bytes.now a.at (omega arith) c.if-b.true)
+pub returns-in-130 : goal.returns-in-130
+returns-in-130 c =
+    let r = c.in_ok-get.ensures.lookup.0 in
+    ap (λ (n : ℕ). found n 3) (c.from-in-130.ensures ∙ c.from_be_bytes.ensures)
+    ∙ rest_three _ _ _ r.2 r.3 c.in-130.len_at_least (search rules)
 
-pub returns-then-end-at-le2 : goal.returns-then-end-at-le2
-unfolding read_length
-returns-then-end-at-le2 c =
-    let a = c.args in
-    let h : length a.bytes.now ≤ a.at + 2 = omega arith in
-    simp (lt-ltb _ _ c.if-end-at.false, le-ltb _ _ c.if-b-lt128.false, ne_eqb _ _ c.if-b.false, eq-eqb _ _ c.if-b-2.true, le-ltb _ _ h)
+pub returns-in-129 : goal.returns-in-129
+returns-in-129 c =
+    let r = c.in_ok-get.ensures.lookup.0 in
+    ap (λ (n : ℕ). found n 2) c.from-in-129.ensures ∙ rest_two _ _ _ r.2 r.3 (search rules) (search rules)
 
-pub overflow_mul-result : goal.overflow_mul-result
-overflow_mul-result c =
-    let a = c.args in omega (arith, c.wide-then-b-2.ensures, c.type_inv.bytes (a.at + 1))
+pub returns-in_default : goal.returns-in_default
+returns-in_default c = let r = c.in_ok-get.ensures.lookup.0 in rest_none _ _ _ r.2 r.3 c.in_default.len_below
 
-pub overflow_add-result : goal.overflow_add-result
-overflow_add-result c =
-    let a = c.args in
-    omega (arith, c.wide-then-b-2-2.ensures, c.wide-then-b-2.ensures, c.type_inv.bytes (a.at + 1), c.type_inv.bytes (a.at + 2))
+pub returns-in_default-2 : goal.returns-in_default-2
+returns-in_default-2 c =
+    let r = c.in_ok-get.ensures.lookup.0 in
+    rest_bad _ _ _ r.2 r.3 c.in-len1-up.len_at_least c.if-first-lt128.false (λ q. omega arith) (λ q. omega arith)
 
-pub returns-then-b-2 : goal.returns-then-b-2
-returns-then-b-2 c =
-    let a = c.args in
-    ap₂ (λ (m n : ℕ). Length (m * 256 + n) 3) c.wide-then-b-2.ensures c.wide-then-b-2-2.ensures
-    ∙ sym (read_three a.bytes.now a.at (omega arith) c.if-b-2.true)
+pub returns-in_default-3 : goal.returns-in_default-3
+returns-in_default-3 c =
+    let r = c.in_ok-get.ensures.lookup.0 in
+    rest_bad _ _ _ r.2 r.3 c.in-len1-up.len_at_least c.if-first-lt128.false (λ q. omega (arith, q)) (λ q. omega (arith, q))
 
-pub returns : goal.returns
-unfolding read_length
-returns c =
-    simp (lt-ltb _ _ c.if-end-at.false, le-ltb _ _ c.if-b-lt128.false, ne_eqb _ _ c.if-b.false, ne_eqb _ _ c.if-b-2.false)
+pub returns-in_default-4 : goal.returns-in_default-4
+returns-in_default-4 c =
+    let r = c.in_ok-get.ensures.lookup.0 in
+    rest_bad _ _ _ r.2 r.3 c.in-len1-up.len_at_least c.if-first-lt128.false (λ q. omega (arith, q)) (λ q. omega (arith, q))

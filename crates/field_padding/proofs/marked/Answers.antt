@@ -2,15 +2,16 @@
 use borrow.Author.Tests.{eq-eqb, ne_eqb}
 use Rattle.field_padding.specs.Padding.{marked}
 use Rattle.field_padding.proofs.marked.Goals as goal
+use Rattle.field_padding.proofs.marked.Goals.{else-b-eq128-via-then-b-eq128+else-n-ne0, else-b-eq128-via-else-b-eq128}
 
-pub returns-then-b-ne128 : goal.returns-then-b-ne128
+pub returns-then-n-ne0 : goal.returns-then-n-ne0
 unfolding marked
-returns-then-b-ne128 c = simp (ne_eqb _ _ c.if-b-ne128.true)
+returns-then-n-ne0 c = simp (eq-eqb _ _ c.if-b-eq128.true, ne_eqb _ _ c.if-n-ne0.true)
 
-pub returns-then-n-eq0 : goal.returns-then-n-eq0
+pub returns-else-b-eq128 : goal.returns-else-b-eq128
 unfolding marked
-returns-then-n-eq0 c = simp (eq-eqb _ _ c.if-b-ne128.false, eq-eqb _ _ c.if-n-eq0.true)
-
-pub returns : goal.returns
-unfolding marked
-returns c = simp (eq-eqb _ _ c.if-b-ne128.false, ne_eqb _ _ c.if-n-eq0.false)
+returns-else-b-eq128 c =
+    elim c.else-b-eq128.branch [
+      | else-b-eq128-via-then-b-eq128+else-n-ne0 w ↦ simp (eq-eqb _ _ w.if-b-eq128.true, eq-eqb _ _ w.if-n-ne0.false)
+      | else-b-eq128-via-else-b-eq128 w ↦ simp (ne_eqb _ _ w.if-b-eq128.false)
+    ]

@@ -1,27 +1,37 @@
--- `unpad` meets its contract: the walk back from index n, with `left` bytes to look at, ends as the whole walk.
-use borrow.Author.Rules.{rules}
-use mathlib.Core.Path.{sym, ◌∙◌}
+-- `unpad` meets its contract: the walk back from index n, as far as `start`, ends as the whole walk.
+use mathlib.Core.Path.{sym, ap, ◌∙◌}
+use Prim.Native.Nat.{ℕ, ◌-◌}
 use native.Mathlib.Omega.{arith}
-use Rattle.field_padding.specs.Padding.{unpad}
+use lib.ListN.{length}
+use Rattle.field_padding.specs.Padding.{mark_before, unpad}
 use Rattle.field_padding.proofs.Unpadding.{back_over_zero, back_to_mark, back_to_none}
 use Rattle.field_padding.proofs.unpad.Goals as goal
 
-pub loop-left-init : goal.loop-left-init
+pub loop-n-init : goal.loop-n-init
 unfolding unpad
-loop-left-init c = let e = c.at_most_16-left.ensures in (omega (arith, e), search rules, rw e)
-
-pub returns-then-b-ne0 : goal.returns-then-b-ne0
-returns-then-b-ne0 c =
-    let L = c.loop-left in
+loop-n-init c =
+    let e = c.saturating_sub-start.ensures in
     let xs = c.args.bytes.now in
-    c.marked.ensures ∙ sym (back_to_mark L.left xs L.n c.loop-left-test.true c.if-b-ne0.true) ∙ L.invariant.2
+    (omega (arith, e), ap (λ (k : ℕ). mark_before k xs (length xs)) (omega (arith, e)))
 
-pub loop-left-preserved : goal.loop-left-preserved
-loop-left-preserved c =
-    let L = c.loop-left in
+pub returns-then-bytes-n-ne0 : goal.returns-then-bytes-n-ne0
+returns-then-bytes-n-ne0 c =
+    let L = c.loop-n in
+    let left = L.n - c.saturating_sub-start.result in
+    c.marked.ensures ∙ sym (back_to_mark left c.args.bytes.now L.n (omega arith) c.if-bytes-n-ne0.true) ∙ L.invariant.1
+
+pub loop-n-preserved : goal.loop-n-preserved
+loop-n-preserved c =
+    let L = c.loop-n in
     let xs = c.args.bytes.now in
-    (omega arith, omega arith, sym (back_over_zero L.left xs L.n c.loop-left-test.true c.if-b-ne0.false) ∙ L.invariant.2)
+    let left = L.n - c.saturating_sub-start.result in (
+      omega arith,
+      ap (λ (k : ℕ). mark_before k xs (L.n - 1)) (omega arith)
+          ∙ sym (back_over_zero left xs L.n (omega arith) c.if-bytes-n-ne0.false)
+          ∙ L.invariant.1,
+    )
 
 pub returns : goal.returns
 returns c =
-    let L = c.loop-left in sym (back_to_none L.left c.args.bytes.now L.n (omega arith)) ∙ L.invariant.2
+    let L = c.loop-n in
+    sym (back_to_none (L.n - c.saturating_sub-start.result) c.args.bytes.now L.n (omega arith)) ∙ L.invariant.1

@@ -14,14 +14,14 @@ returns-then-lacks c = simp (sym c.lacks.ensures ∙ c.if-lacks.true)
 pub returns-then-lacks-2 : goal.returns-then-lacks-2
 unfolding ended
 returns-then-lacks-2 c =
-    simp (sym c.lacks.ensures ∙ c.if-lacks.false, sym (c.lacks-2.ensures ∙ ap (λ (need : Need). lacks need c.args.objects.second) c.second_need.ensures) ∙ c.if-lacks-2.true, c.second_tag.ensures)
+    simp (sym c.lacks.ensures ∙ c.if-lacks.false, sym (c.lacks-2.ensures ∙ ap (λ (need : Need). lacks need c.args.objects.second) c.need.ensures) ∙ c.if-lacks-2.true, c.tag.ensures)
 
 pub returns-then-after-lt3 : goal.returns-then-after-lt3
 unfolding ended
 returns-then-after-lt3 c =
-    simp (sym c.lacks.ensures ∙ c.if-lacks.false, sym (c.lacks-2.ensures ∙ ap (λ (need : Need). lacks need c.args.objects.second) c.second_need.ensures) ∙ c.if-lacks-2.false, lt-ltb c.args.after 3 (omega arith))
+    simp (sym c.lacks.ensures ∙ c.if-lacks.false, sym (c.lacks-2.ensures ∙ ap (λ (need : Need). lacks need c.args.objects.second) c.need.ensures) ∙ c.if-lacks-2.false, lt-ltb c.args.after 3 (omega arith))
 
 pub returns : goal.returns
 unfolding ended
 returns c =
-    simp (sym c.lacks.ensures ∙ c.if-lacks.false, sym (c.lacks-2.ensures ∙ ap (λ (need : Need). lacks need c.args.objects.second) c.second_need.ensures) ∙ c.if-lacks-2.false, le-ltb c.args.after 3 (omega arith))
+    simp (sym c.lacks.ensures ∙ c.if-lacks.false, sym (c.lacks-2.ensures ∙ ap (λ (need : Need). lacks need c.args.objects.second) c.need.ensures) ∙ c.if-lacks-2.false, le-ltb c.args.after 3 (omega arith))

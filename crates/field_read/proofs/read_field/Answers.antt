@@ -1,54 +1,54 @@
 -- `read_field` meets its contract: the walk from here on is the walk of the whole field.
 use borrow.Author.Rules.{rules}
-use mathlib.Core.Path.{◌≡◌, refl, sym, ap, ap₂, ◌∙◌}
+use mathlib.Core.Path.{◌≡◌, sym, ap, ap₂, ◌∙◌}
 use Prim.Native.Nat.{ℕ, ◌-◌, ◌<◌}
 use native.Mathlib.Omega.{arith}
+use borrow.Author.Tests.{ltb-true, ltb-false}
+use lib.ListN.{length}
+use Rattle.std.proofs.lemmas.Grind.{common_steps}
 use Rattle.octets.specs.Bytes.{Bytes}
 use Rattle.field_expected.specs.Wanted.{rank}
 use Rattle.field_object.specs.Object.{read_object}
-use Rattle.field_object.specs.Step.{index_after, read_step}
-use Rattle.field_read.specs.Field.{refused, walk, read_field}
-use Rattle.field_expected.specs.declared.Wanted.{Wanted}
+use Rattle.field_object.specs.Step.{index_after}
+use Rattle.field_read.specs.Field.{none, walk, read_field}
 use Rattle.field_object.specs.declared.DataObject.{DataObject}
-use Rattle.field_object.specs.declared.ObjectRead.{ObjectRead}
-use Rattle.field_object.specs.declared.ObjectRead.TheVariants.{Object}
-use Rattle.field_object.specs.declared.Step.{Step}
 use Rattle.field_read.specs.declared.Objects.{Objects}
+use Rattle.field_read.specs.declared.reader.Reader.{Reader}
 use Rattle.field_object.proofs.Inversion.{stands, later, rank_most, some_byte}
 use Rattle.field_read.proofs.Walk.{walk_end, walk_object, walk_breach}
 use Rattle.field_read.proofs.read_field.Goals as goal
 
--- of a step, what was read, and behind an object the reader's index
-module _ (w : Wanted) (r : ℕ) (xs : Bytes) (at : ℕ) (t : Step) where
-  step-read : t ≡ read_step w r xs at → t.read ≡ read_object w r xs at
-  step-read e = ap (λ (u : Step). u.read) e
-
-  step-index : (d : DataObject) → t ≡ read_step w r xs at → t.read ≡ Object d → t.at ≡ d.next
-  unfolding index_after
-  step-index d e o = ap (λ (u : Step). u.at) e ∙ ap (λ (x : ObjectRead). index_after x at) (sym (step-read e) ∙ o)
-
-pub loop-at-init : goal.loop-at-init
+pub loop-reader-init : goal.loop-reader-init
 unfolding read_field
-loop-at-init c = (4, search rules, search rules, refl)
-
-pub returns-in_default : goal.returns-in_default
-unfolding refused
-returns-in_default c =
+loop-reader-init c =
     let a = c.args in
-    let L = c.loop-at in
-    let told = c.in_default.is in
-    c.refused.ensures ∙ ap refused told
-    ∙ sym (walk_breach a.wanted a.field.now L.objects L.place L.at L.invariant.0 _ (omega arith) c.loop-at-test.true
-    (sym (step-read a.wanted L.place a.field.now L.at _ c.read_at-step.ensures) ∙ told))
-    ∙ L.invariant.3
+    let e = c.new-reader.ensures in
+    let d = c.default-objects.ensures in
+    let no_object : c.default-objects.result ≡ none =
+    λ i. record { ciphertext = d.0 i; ciphertext_len = d.1.0 i; second = d.1.1.0 i; mac_start = d.1.1.1.0 i; mac = d.1.1.1.1 i } in (
+      4,
+      search rules,
+      search rules,
+      ap (λ (r : Reader). r.field.now) e,
+      ap₂ (λ (o : Objects) (i : ℕ). walk 4 a.wanted a.field.now o 0 i) no_object (ap (λ (r : Reader). r.at) e),
+    )
 
-pub noted-more-requires : goal.noted-more-requires
-noted-more-requires c =
+pub returns-in_err-object : goal.returns-in_err-object
+returns-in_err-object c =
     let a = c.args in
-    let L = c.loop-at in
+    let L = c.loop-reader in
     let xs = a.field.now in
-    let read = sym (step-read a.wanted L.place xs L.at _ c.read_at-step.ensures) ∙ c.in-Object.is in
-    let s = stands a.wanted L.place xs L.at _ read in
+    let read = ap (λ (ys : Bytes). read_object a.wanted L.place ys L.reader.at) (sym L.invariant.3) ∙ sym c.in_err-object.ensures.read in
+    let more : L.reader.at < length xs = omega (arith, ap length L.invariant.3, ltb-true _ _ (sym c.has_more.ensures ∙ c.loop-reader-test.true)) in
+    let e = sym L.invariant.4 ∙ walk_breach a.wanted xs L.objects L.place L.reader.at L.invariant.0 _ (omega arith) more read in
+    let f = c.from_residual.ensures in
+    grind (arith, common_steps, e, f)
+
+pub noted-objects-requires : goal.noted-objects-requires
+noted-objects-requires c =
+    let a = c.args in
+    let L = c.loop-reader in
+    let s = stands a.wanted L.place L.reader.field.now L.reader.at _ (sym c.in_ok-object.ensures.read) in
     omega (
       arith,
       some_byte a.wanted _ s.n s.fit,
@@ -57,39 +57,47 @@ noted-more-requires c =
       ap (λ (d : DataObject). d.next) s.same,
     )
 
-pub loop-at-smaller : goal.loop-at-smaller
-loop-at-smaller c =
+pub loop-reader-smaller : goal.loop-reader-smaller
+unfolding index_after
+loop-reader-smaller c =
     let a = c.args in
-    let L = c.loop-at in
-    let xs = a.field.now in
-    let read = sym (step-read a.wanted L.place xs L.at _ c.read_at-step.ensures) ∙ c.in-Object.is in
-    let next = step-index a.wanted L.place xs L.at _ _ c.read_at-step.ensures c.in-Object.is in
-    let s = stands a.wanted L.place xs L.at _ read in
-    omega (arith, next, ap (λ (d : DataObject). d.next) s.same, s.inside, c.loop-at-test.true)
+    let L = c.loop-reader in
+    let s = stands a.wanted L.place L.reader.field.now L.reader.at _ (sym c.in_ok-object.ensures.read) in
+    omega (
+      arith,
+      ap (λ (r : Reader). r.at) c.in_ok-object.ensures.reader,
+      ap (λ (d : DataObject). d.next) s.same,
+      s.inside,
+      ap length L.invariant.3,
+    )
 
-pub loop-at-preserved : goal.loop-at-preserved
-loop-at-preserved c =
+pub loop-reader-preserved : goal.loop-reader-preserved
+unfolding index_after
+loop-reader-preserved c =
     let a = c.args in
-    let L = c.loop-at in
+    let L = c.loop-reader in
     let xs = a.field.now in
-    let read = sym (step-read a.wanted L.place xs L.at _ c.read_at-step.ensures) ∙ c.in-Object.is in
-    let next = step-index a.wanted L.place xs L.at _ _ c.read_at-step.ensures c.in-Object.is in
-    let s = stands a.wanted L.place xs L.at _ read in
-    let d = c.in-Object.object in
-    let place : c.rank-place.result ≡ rank a.wanted.second d.tag = c.rank-place.ensures in
+    let k = L.invariant.0 in
+    let d = c.in_ok-object.object in
+    let moved = c.in_ok-object.ensures.reader in
+    let read = ap (λ (ys : Bytes). read_object a.wanted L.place ys L.reader.at) (sym L.invariant.3) ∙ sym c.in_ok-object.ensures.read in
+    let more : L.reader.at < length xs = omega (arith, ap length L.invariant.3, ltb-true _ _ (sym c.has_more.ensures ∙ c.loop-reader-test.true)) in
+    let s = stands a.wanted L.place xs L.reader.at _ read in
+    let place = c.rank-place.ensures in
     let after : L.place < rank a.wanted.second d.tag =
     omega (arith, later a.wanted L.place _ s.ok, ap (λ (x : DataObject). rank a.wanted.second x.tag) s.same) in (
-      L.invariant.0 - 1,
+      k - 1,
       omega (arith, place, after),
       omega (arith, place, rank_most a.wanted.second d.tag),
-      ap (walk (L.invariant.0 - 1) a.wanted xs _ _) next
-          ∙ ap₂ (λ (o : Objects) (r : ℕ). walk (L.invariant.0 - 1) a.wanted xs o r d.next) c.noted-more.ensures place
-          ∙ sym (walk_object a.wanted xs L.objects L.place L.at L.invariant.0 d (omega arith) c.loop-at-test.true read)
-          ∙ L.invariant.3,
+      ap (λ (r : Reader). r.field.now) moved ∙ L.invariant.3,
+      ap (λ (r : Reader). walk (k - 1) a.wanted xs c.noted-objects.result c.rank-place.result r.at) moved
+          ∙ ap₂ (λ (o : Objects) (r : ℕ). walk (k - 1) a.wanted xs o r d.next) c.noted-objects.ensures place
+          ∙ sym (walk_object a.wanted xs L.objects L.place L.reader.at k d (omega arith) more read)
+          ∙ L.invariant.4,
     )
 
 pub returns : goal.returns
 returns c =
     let a = c.args in
-    let L = c.loop-at in
-    c.ended.ensures ∙ sym (walk_end a.wanted a.field.now L.objects L.place L.at L.invariant.0 c.loop-at-test.false) ∙ L.invariant.3
+    let L = c.loop-reader in
+    c.ended.ensures ∙ sym (walk_end a.wanted a.field.now L.objects L.place L.reader.at L.invariant.0 (omega (arith, ap length L.invariant.3, ltb-false _ _ (sym c.has_more.ensures ∙ c.loop-reader-test.false)))) ∙ L.invariant.4

@@ -4,9 +4,10 @@ use lib.ListN.{length}
 use Rattle.field_read.specs.Field.{walk, read_field}
 use Rattle.field_read.proofs.read_field.Given as goal
 
-abbrev pub invariant-loop-at : goal.invariant-loop-at
-invariant-loop-at l =
-    (k : ℕ) × (4 ≤ k + l.place) × (l.place ≤ 3) × (walk k l.wanted l.field l.objects l.place l.at ≡ read_field l.wanted l.field)
+abbrev pub invariant-loop-reader : goal.invariant-loop-reader
+invariant-loop-reader l =
+    (k : ℕ) × (4 ≤ k + l.place) × (l.place ≤ 3) × (l.reader.field.now ≡ l.field)
+    × (walk k l.wanted l.field l.objects l.place l.reader.at ≡ read_field l.wanted l.field)
 
-abbrev pub decreases-loop-at : goal.decreases-loop-at
-decreases-loop-at l = length l.field - l.at
+abbrev pub decreases-loop-reader : goal.decreases-loop-reader
+decreases-loop-reader l = length l.field - l.reader.at

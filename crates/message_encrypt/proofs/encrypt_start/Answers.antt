@@ -14,4 +14,4 @@ pub returns : goal.returns
 returns c =
     let a = c.args in
     let h = c.requires in
-    start_changed (cbc_encrypt (ciph a.size a.w.now) a.iv) a.text.now _ a.n h.0 h.1 c.encrypt.ensures.buffer (omega (arith, c.encrypt.auto, length-take-le a.n a.text.now h.1))
+    start_changed (cbc_encrypt (ciph a.key.now.size a.key.now.words) a.iv) a.text.now _ a.n h.0 h.1 c.encrypt.ensures.buffer (omega (arith, c.encrypt.auto, length-take-le a.n a.text.now h.1))

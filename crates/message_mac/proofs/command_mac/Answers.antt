@@ -10,6 +10,6 @@ pub returns : goal.returns
 unfolding command_mac_input
 returns c =
     let a = c.args in
-    let n : length a.sk_mac ≡ 32 = search (rules, c.well_formed) in
-    simp (c.finish.ensures, c.absorb-whole.ensures, c.absorb-headed.ensures, c.absorb-begun.ensures, c.start.ensures, c.key_size-size.ensures, c.expanded-w.ensures, c.encoded_header-header.ensures)
-    (in_three_parts a.suite a.sk_mac n a.mcv (encoded_header a.ins a.p1 a.p2) a.covered.now)
+    let n : length a.key.bytes ≡ 32 = search (rules, c.well_formed) in
+    simp (c.finish.ensures, c.absorb.ensures, c.absorb-headed.ensures, c.absorb-begun.ensures, c.start.ensures, c.expanded-key.ensures, c.encoded_header.ensures)
+    (in_three_parts a.key.suite a.key.bytes n a.mcv (encoded_header a.header) a.covered.now)

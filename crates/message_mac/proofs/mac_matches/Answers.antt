@@ -11,14 +11,14 @@ use Rattle.message_mac.proofs.mac_matches.Goals as goal
 
 pub loop-i-init : goal.loop-i-init
 unfolding same
-loop-i-init c = (refl, omega arith)
+loop-i-init c = refl
 
 pub loop-i-preserved : goal.loop-i-preserved
 loop-i-preserved c =
     let L = c.loop-i in
     let a = c.args in
     let n : length a.mac ≡ 8 = search rules in
-    (same_more L.differ a.received.now a.mac L.i (omega arith) (omega (arith, n)) L.invariant.0, omega arith)
+    same_more L.differ a.received.now a.mac L.i (omega arith) (omega (arith, n)) L.invariant
 
 pub returns : goal.returns
 returns c =
@@ -26,9 +26,6 @@ returns c =
     let a = c.args in
     let n : length a.mac ≡ 8 = search rules in
     let e : L.i ≡ 8 = omega arith in
-    L.invariant.0
+    L.invariant
     ∙ ap (λ (k : ℕ). same (take k a.received.now) (take k a.mac)) e
     ∙ ap₂ same (take_all 8 a.received.now (omega arith)) (take_all 8 a.mac (omega (arith, n)))
-
-pub loop-i-smaller : goal.loop-i-smaller
-loop-i-smaller c = omega arith

@@ -10,6 +10,6 @@ pub returns : goal.returns
 unfolding response_mac_input
 returns c =
     let a = c.args in
-    let n : length a.sk_rmac ≡ 32 = search rules in
-    simp (c.finish.ensures, c.absorb-whole.ensures, c.absorb-chained.ensures, c.start.ensures, c.key_size-size.ensures, c.expanded-w.ensures)
-    (in_two_parts a.suite a.sk_rmac n a.mcv a.covered.now)
+    let n : length a.key.bytes ≡ 32 = search (rules, c.well_formed) in
+    simp (c.finish.ensures, c.absorb.ensures, c.absorb-chained.ensures, c.start.ensures, c.expanded-key.ensures)
+    (in_two_parts a.key.suite a.key.bytes n a.mcv a.covered.now)

@@ -1,21 +1,32 @@
--- `unwrap_command` meets its contract: a session that breaks the rules counts as closed.
-use Rattle.octets.proofs.Tests.{outcome}
-use Rattle.session_rules.proofs.KeepsTheRules.{broken_not_served}
-use Rattle.message_answer.proofs.Required.{first_refused}
-use Rattle.message_protocol.specs.Command.{unwrap_command_checks, card_unwraps}
+-- `unwrap_command` meets its contract: refused by a test, or read.
+use mathlib.Core.Path.{sym, ◌∙◌}
+use lib.ListN.{length}
+use Rattle.message_protocol.specs.Command.{card_unwraps}
+use Rattle.message_protocol.proofs.CallCases.{may_unwrap_command}
 use Rattle.message_result.specs.Results.{command_result}
-use Rattle.message_result.proofs.StageEnds.{stage_refused}
+use Rattle.message_result.proofs.Checks.{was_passed, tests_passed, test_refused}
+use Rattle.message_result.proofs.StageEnds.{stage_goes_on, stage_refused}
 use Rattle.message_unwrap_command.specs.UnwrapCommand.{payload_of}
 use Rattle.message_unwrap_command.proofs.unwrap_command.Goals as goal
 
-pub returns-then-not-valid : goal.returns-then-not-valid
-unfolding card_unwraps unwrap_command_checks
-returns-then-not-valid c =
+pub read_command-requires : goal.read_command-requires
+read_command-requires c =
     let a = c.args in
-    let m = stage_refused a.session command_result payload_of a.out.now
-    (first_refused _ _ _ _ (broken_not_served a.session (outcome _ c.valid.ensures c.if-not-valid.true)))
-    c.refused_command.ensures in
+    (may_unwrap_command a.session a.header.ins (length a.field.now) tt
+    (was_passed _ (sym c.unwrap_command_checks.ensures ∙ c.in-Ok.is))).counted
+
+pub returns-in-Ok : goal.returns-in-Ok
+unfolding card_unwraps
+returns-in-Ok c =
+    let a = c.args in
+    let m = stage_goes_on a.session command_result payload_of a.out.now
+    (tests_passed _ _ (sym c.unwrap_command_checks.ensures ∙ c.in-Ok.is)) (c.read_command.ensures.result, c.read_command.ensures.output) in
     record { result = m.0; output = m.1 }
 
-pub unwrap_command_with_valid_session-requires : goal.unwrap_command_with_valid_session-requires
-unwrap_command_with_valid_session-requires c = outcome _ c.valid.ensures c.if-not-valid.false
+pub returns-in-Err : goal.returns-in-Err
+unfolding card_unwraps
+returns-in-Err c =
+    let a = c.args in
+    let m = stage_refused a.session command_result payload_of a.out.now
+    (test_refused _ _ (sym c.unwrap_command_checks.ensures ∙ c.in-Err.is)) c.refused.ensures in
+    record { result = m.0; output = m.1 }

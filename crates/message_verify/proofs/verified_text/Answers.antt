@@ -4,19 +4,19 @@ use Rattle.octets.proofs.Tests.{outcome}
 use Rattle.session_suite.specs.StoredKeys.{key_in}
 use Rattle.message_mac.specs.Same.{same}
 use Rattle.message_verify.specs.VerifiedText.{received}
-use Rattle.message_verify.proofs.Stages.{no_room, wrong_mac, wrong_padding, data_verified}
+use Rattle.message_verify.proofs.Stages.{no_room, wrong_mac, text_verified}
 use Rattle.message_verify.proofs.verified_text.Goals as goal
 
 pub returns-then-needed-out : goal.returns-then-needed-out
 returns-then-needed-out c =
     let a = c.args in
-    let m = no_room (key_in a.suite a.sk_enc) a.counter a.full (received a.mac.now a.ciphertext.now) a.out.now c.if-needed-out.true in
+    let m = no_room (key_in a.key.suite a.key.bytes) a.counter a.full (received a.mac.now a.ciphertext.now) a.out.now c.if-needed-out.true in
     record { answer = m.0; output = m.1 }
 
 pub returns-then-not-mac_matches : goal.returns-then-not-mac_matches
 returns-then-not-mac_matches c =
     let a = c.args in
-    let m = wrong_mac (key_in a.suite a.sk_enc) a.counter a.full (received a.mac.now a.ciphertext.now) a.out.now c.if-needed-out.false
+    let m = wrong_mac (key_in a.key.suite a.key.bytes) a.counter a.full (received a.mac.now a.ciphertext.now) a.out.now c.if-needed-out.false
     (outcome _ (c.mac_matches.ensures ∙ ap (same a.mac.now) c.truncated.ensures) c.if-not-mac_matches.true) in
     record { answer = m.0; output = m.1 }
 
@@ -25,20 +25,11 @@ decrypt_text-text-requires c =
     let sized = c.requires in
     (sized.blocks, sized.short, c.if-needed-out.false)
 
-pub returns-in_default : goal.returns-in_default
-returns-in_default c =
-    let a = c.args in
-    let m = wrong_padding (key_in a.suite a.sk_enc) a.counter a.full (received a.mac.now a.ciphertext.now) a.out.now c.if-needed-out.false
-    (outcome _ (c.mac_matches.ensures ∙ ap (same a.mac.now) c.truncated.ensures)
-    c.if-not-mac_matches.false)
-    _ _ c.decrypt_text-text.ensures.answer c.decrypt_text-text.ensures.output c.in_default.is in
-    record { answer = m.0; output = m.1 }
-
 pub returns : goal.returns
 returns c =
     let a = c.args in
-    let m = data_verified (key_in a.suite a.sk_enc) a.counter a.full (received a.mac.now a.ciphertext.now) a.out.now c.if-needed-out.false
+    let m = text_verified (key_in a.key.suite a.key.bytes) a.counter a.full (received a.mac.now a.ciphertext.now) a.out.now c.if-needed-out.false
     (outcome _ (c.mac_matches.ensures ∙ ap (same a.mac.now) c.truncated.ensures)
     c.if-not-mac_matches.false)
-    _ _ c.decrypt_text-text.ensures.answer c.decrypt_text-text.ensures.output _ c.in-Data.is in
-    record { answer = m.0; output = m.1 }
+    _ _ c.decrypt_text-text.ensures.answer c.decrypt_text-text.ensures.output in
+    record { answer = c.ok_or.ensures.value ∙ m.0; output = m.1 }

@@ -1,32 +1,37 @@
--- `wrap_command` meets its contract: a session that breaks the rules counts as closed.
+-- `wrap_command` meets its contract: refused by a test, or written.
 use borrow.Author.Rules.{rules}
-use mir.Syntax.{w8}
-use mir.Val.{Fits}
-use lib.ListN.{get_or}
+use mathlib.Core.Path.{sym, ◌∙◌}
+use lib.ListN.{length}
 use Rattle.octets.specs.Bytes.{Bytes}
-use Rattle.octets.proofs.Tests.{outcome}
-use Rattle.session_rules.proofs.KeepsTheRules.{broken_not_served}
-use Rattle.message_answer.proofs.Required.{first_refused}
-use Rattle.message_protocol.specs.Command.{wrap_command_checks, host_wraps}
-use Rattle.message_protocol.proofs.KeysTyped.{keys_typed}
+use Rattle.message_answer.specs.Answer.{concluded, buffer}
+use Rattle.message_answer.specs.Message.{command_header}
+use Rattle.message_protocol.specs.Command.{host_wraps}
+use Rattle.message_protocol.proofs.CallCases.{may_wrap_command}
+use Rattle.message_protocol.proofs.KeysTyped.{keyed_by_types}
 use Rattle.message_result.specs.Results.{wrap_result}
-use Rattle.message_result.proofs.StageEnds.{stage_refused}
+use Rattle.message_result.proofs.Checks.{was_passed, tests_passed, test_refused}
+use Rattle.message_result.proofs.StageEnds.{stage_goes_on, stage_refused}
 use Rattle.message_wrap_command.proofs.wrap_command.Goals as goal
 
-pub returns-then-not-valid : goal.returns-then-not-valid
-unfolding host_wraps wrap_command_checks
-returns-then-not-valid c =
-    let sized = c.well_formed.0 in
-    let session = c.args.session in
-    let keyed = keys_typed session (search (rules, sized)) (search (rules, sized)) (search (rules, sized))
-    (λ i. let f : Fits w8 (get_or session.sk_enc i 0) = search (rules, sized) in f.fits)
-    (λ i. let f : Fits w8 (get_or session.sk_mac i 0) = search (rules, sized) in f.fits)
-    (λ i. let f : Fits w8 (get_or session.sk_rmac i 0) = search (rules, sized) in f.fits) in
+pub write_command-requires : goal.write_command-requires
+write_command-requires c =
+    let a = c.args in
+    let may = may_wrap_command a.session (command_header a.header a.le) (length a.«data».now) (length a.out.now) tt
+    (was_passed _ (sym c.wrap_command_checks.ensures ∙ c.in-Ok.is)) in
+    record { counted = may.counted; short = may.short; fits = may.fits }
+
+pub returns-in-Ok : goal.returns-in-Ok
+unfolding host_wraps concluded buffer
+returns-in-Ok c =
+    let a = c.args in
+    let ends = stage_goes_on a.session wrap_result (λ (field : Bytes). field) a.out.now
+    (tests_passed _ _ (sym c.wrap_command_checks.ensures ∙ c.in-Ok.is)) (c.write_command.ensures.result, c.write_command.ensures.output) in
+    record { result = ends.0; output = ends.1; bytes = λ i l. (c.type_inv.data i).fits; keyed = search (rules, keyed_by_types, c.well_formed.0) }
+
+pub returns-in-Err : goal.returns-in-Err
+unfolding host_wraps
+returns-in-Err c =
     let a = c.args in
     let ends = stage_refused a.session wrap_result (λ (field : Bytes). field) a.out.now
-    (first_refused _ _ _ _ (broken_not_served a.session (outcome _ c.valid.ensures c.if-not-valid.true)))
-    c.refused_wrap.ensures in
-    record { result = ends.0; output = ends.1; bytes = λ i l. (c.type_inv.data i).fits; keyed = keyed }
-
-pub wrap_command_with_valid_session-requires : goal.wrap_command_with_valid_session-requires
-wrap_command_with_valid_session-requires c = outcome _ c.valid.ensures c.if-not-valid.false
+    (test_refused _ _ (sym c.wrap_command_checks.ensures ∙ c.in-Err.is)) c.refused.ensures in
+    record { result = ends.0; output = ends.1; bytes = λ i l. (c.type_inv.data i).fits; keyed = search (rules, keyed_by_types, c.well_formed.0) }

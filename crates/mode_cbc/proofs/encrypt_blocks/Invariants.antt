@@ -1,5 +1,5 @@
 use mathlib.Core.Path.{◌≡◌}
-use Prim.Native.Nat.{◌≤◌, ◌-◌}
+use Prim.Native.Nat.{◌/◌}
 use lib.ListN.{length}
 use Rattle.aes.specs.Aes.{ciph}
 use Rattle.mode_cbc.specs.Cbc.{encrypt_blocks, cbc_encrypt}
@@ -8,8 +8,5 @@ use Rattle.mode_cbc.proofs.encrypt_blocks.Given as goal
 
 abbrev pub invariant-loop-i : goal.invariant-loop-i
 invariant-loop-i l =
-    (l.i ≤ l.n) × (length l.«data» ≡ length l.initial.«data») × (length l.last ≡ 16)
-    × (pending (encrypt_blocks (ciph l.size l.w)) l.n l.last l.i l.«data» ≡ cbc_encrypt (ciph l.size l.w) l.initial.last l.initial.«data»)
-
-abbrev pub decreases-loop-i : goal.decreases-loop-i
-decreases-loop-i l = l.n - l.i
+    pending (encrypt_blocks (ciph l.key.size l.key.words)) (length l.initial.«data» / 16) l.last l.i l.«data»
+    ≡ cbc_encrypt (ciph l.key.size l.key.words) l.initial.last l.initial.«data»

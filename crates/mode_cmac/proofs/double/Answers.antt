@@ -6,11 +6,11 @@ use Rattle.octets.specs.Bytes.{Bytes, ◌xor◌}
 use Rattle.mode_cmac.specs.Subkeys.{double, r128}
 use Rattle.mode_cmac.proofs.double.Goals as goal
 
-pub returns-then-first-lt128 : goal.returns-then-first-lt128
+pub returns-then-x-lt128 : goal.returns-then-x-lt128
 unfolding double
-returns-then-first-lt128 c =
+returns-then-x-lt128 c =
     let x = c.args.x in
-    simp (lt-ltb (get_or x 0 0) 128 c.if-first-lt128.true) c.shift_left-shifted.ensures
+    simp (lt-ltb (get_or x 0 0) 128 c.if-x-lt128.true) c.shift_left-shifted.ensures
 
 pub returns : goal.returns
 unfolding double
@@ -18,4 +18,4 @@ returns c =
     let x = c.args.x in
     let shifted = c.shift_left-shifted in
     let sum : c.xor_block.result ≡ shifted.result xor r128 = c.xor_block.ensures in
-    simp (le-ltb (get_or x 0 0) 128 c.if-first-lt128.false) (sum ∙ ap (λ (y : Bytes). y xor r128) shifted.ensures)
+    simp (le-ltb (get_or x 0 0) 128 c.if-x-lt128.false) (sum ∙ ap (λ (y : Bytes). y xor r128) shifted.ensures)

@@ -1,33 +1,21 @@
--- `put_zeros` meets its contract: before each turn i zeros are written.
-use borrow.Author.Rules.{rules}
-use mathlib.Core.Path.{◌≡◌, sym, ap₂, ◌∙◌}
-use Prim.Native.Nat.{ℕ, ◌+◌}
-use native.Mathlib.Omega.{arith}
-use lib.ListN.{length, set, length-set, get_or-replicate, length-replicate}
+-- `put_zeros` meets its contract: the part from index at on is zero.
+use Rattle.std.proofs.Common.{◌≡◌, ◌∙◌, ℕ, ◌+◌, ◌-◌, length, take, drop, replicate, length-take-le, length-drop, ap, arith}
+use Rattle.std.proofs.lemmas.List.{length-replicate}
+use borrow.Rule.Slice.PartMut.{put_mid}
 use Rattle.octets.specs.Bytes.{Bytes, zeros}
-use Rattle.octets.proofs.Writing.{put_none, put_more, put_all}
+use Rattle.octets.proofs.Writing.{part_put}
 use Rattle.octets.proofs.put_zeros.Goals as goal
-
-pub loop-i-init : goal.loop-i-init
-loop-i-init c = (put_none c.args.out.now c.args.at (zeros c.args.n), omega arith, search rules)
-
-pub loop-i-preserved : goal.loop-i-preserved
-loop-i-preserved c =
-    let L = c.loop-i in
-    let a = c.args in
-    let size : length (zeros a.n) ≡ a.n = length-replicate a.n 0 in (
-      ap₂ (λ (l : Bytes) (b : ℕ). set l (a.at + L.i) b) L.invariant.0 (sym (get_or-replicate a.n L.i 0 0 (omega arith)))
-          ∙ put_more a.out.now a.at (zeros a.n) L.i (omega arith) (omega (arith, size)),
-      omega arith,
-      simp length-set L.invariant.2,
-    )
 
 pub returns : goal.returns
 returns c =
-    let L = c.loop-i in
     let a = c.args in
+    let k = a.at + a.n - a.at in
     let size : length (zeros a.n) ≡ a.n = length-replicate a.n 0 in
+    let rest : length (drop a.at a.out.now) ≡ length a.out.now - a.at = length-drop a.at a.out.now in
+    let room : length (take k (drop a.at a.out.now)) ≡ a.n =
+    length-take-le k (drop a.at a.out.now) (omega (arith, rest)) ∙ omega arith in
+    let zero : c.fill.new.self ≡ zeros a.n = c.fill.ensures.after (λ y e. e) ∙ ap (λ (n : ℕ). replicate n 0) room in
     record {
       end = omega (arith, size);
-      bytes = L.invariant.0 ∙ put_all a.out.now a.at (zeros a.n) L.i (omega (arith, size)) (omega (arith, size));
+      bytes = ap (λ (l : Bytes). put_mid a.at k a.out.now l) zero ∙ part_put a.out.now a.at k (zeros a.n) (omega (arith, size));
     }

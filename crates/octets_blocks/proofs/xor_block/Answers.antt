@@ -1,8 +1,5 @@
 -- `xor_block` meets its contract: before each turn the first i sums are stored.
-use borrow.Author.Rules.{rules}
-use mathlib.Core.Path.{◌≡◌, refl, sym, ◌∙◌}
-use native.Mathlib.Omega.{arith}
-use lib.ListN.{take, length-set}
+use Rattle.std.proofs.Common.{rules, ◌≡◌, ◌∙◌, take, length-set, arith, sym, refl}
 use lib.Seq.{take_all}
 use Rattle.octets.specs.Bytes.{tabulate}
 use Rattle.octets.proofs.Tabulate.{tabulate_store, tabulate_xor}
@@ -10,33 +7,17 @@ use Rattle.octets_blocks.proofs.xor_block.Invariants.{sum}
 use Rattle.octets_blocks.proofs.xor_block.Goals as goal
 
 pub loop-i-init : goal.loop-i-init
-loop-i-init c = (search rules, refl, refl)
+loop-i-init c = (refl, refl)
 
 pub loop-i-preserved : goal.loop-i-preserved
 loop-i-preserved c =
     let l = c.loop-i in
-    let args = c.args in
-    (omega arith, simp length-set l.invariant.1, tabulate_store l.i (sum args.a args.b) l.block l.invariant.2 (omega arith))
+    (simp length-set l.invariant.0, tabulate_store l.i (sum c.args.a c.args.b) l.block l.invariant.1 (omega arith))
 
 pub returns : goal.returns
 returns c =
     let l = c.loop-i in
-    let args = c.args in
+    let a = c.args in
     let e : l.i ≡ 16 = omega arith in
-    let all : take 16 l.block ≡ tabulate 16 (sum args.a args.b) = rw e at l.invariant.2 in
-    sym (take_all 16 l.block (omega arith)) ∙ all ∙ tabulate_xor 16 args.a args.b (search rules) (search rules)
-
-pub bounds-a-i : goal.bounds-a-i
-bounds-a-i c = omega arith
-
-pub bounds-b-i : goal.bounds-b-i
-bounds-b-i c = omega arith
-
-pub bounds-block-i : goal.bounds-block-i
-bounds-block-i c = omega arith
-
-pub overflow_add-i : goal.overflow_add-i
-overflow_add-i c = omega arith
-
-pub loop-i-smaller : goal.loop-i-smaller
-loop-i-smaller c = omega arith
+    let all : take 16 l.block ≡ tabulate 16 (sum a.a a.b) = rw e at l.invariant.1 in
+    sym (take_all 16 l.block (omega arith)) ∙ all ∙ tabulate_xor 16 a.a a.b (search rules) (search rules)

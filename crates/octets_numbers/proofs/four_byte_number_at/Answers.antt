@@ -1,11 +1,8 @@
--- `four_byte_number_at` meets its contract: the four bytes are those of the part.
-use mathlib.Core.Path.{ap, ◌∙◌}
-use native.Mathlib.Nat.{add-zero}
-use Rattle.octets.proofs.Tabulate.{tabulate_part}
+-- `four_byte_number_at` meets its contract: the library's number in those bytes is the definition's.
+use Rattle.std.proofs.Common.{rules, ap, ◌∙◌}
 use Rattle.octets_numbers.specs.BigEndian.{number_in}
+use Rattle.octets_numbers.proofs.Library.{four_bytes}
 use Rattle.octets_numbers.proofs.four_byte_number_at.Goals as goal
 
 pub returns : goal.returns
-returns c =
-    let a = c.args in
-    c.of_four.ensures ∙ ap number_in (rw add-zero at (tabulate_part 0 4 a.at a.bytes.now c.requires))
+returns c = c.from_be_bytes.ensures ∙ four_bytes c.array_at.result (search rules) ∙ ap number_in c.array_at.ensures

@@ -1,8 +1,6 @@
--- `put_four_byte_number` meets its contract: a byte for each division by 256.
-use borrow.Author.Rules.{rules}
-use Rattle.octets_numbers.specs.BigEndian.{big_endian}
+-- `put_four_byte_number` meets its contract: the library's four bytes are the definition's.
+use Rattle.octets_numbers.proofs.Library.{bytes_of_four}
 use Rattle.octets_numbers.proofs.put_four_byte_number.Goals as goal
 
 pub returns : goal.returns
-unfolding big_endian
-returns c = search rules
+returns c = rw (← bytes_of_four c.args.n, ← c.to_be_bytes.ensures) c.put_bytes.ensures

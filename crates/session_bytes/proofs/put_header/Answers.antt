@@ -1,4 +1,4 @@
--- `put_header` meets its contract: the first six bytes, then the count.
+-- `put_header` meets its contract: the length, four bytes, then the count.
 use native.Mathlib.Omega.{arith}
 use Rattle.octets.proofs.Writing.{wrote_then}
 use Rattle.octets_numbers.specs.BigEndian.{big_endian}
@@ -9,7 +9,8 @@ pub returns : goal.returns
 unfolding header big_endian
 returns c =
     rw (
-      c.side_number-d.ensures,
-      c.phase_number-p.ensures,
-      c.number-u.ensures,
-    ) at (wrote_then (omega arith) c.put_bytes-k.ensures c.put_four_byte_number.ensures)
+      c.to_be_bytes.ensures,
+      c.side_number.ensures,
+      c.phase_number.ensures,
+      c.number.ensures,
+    ) at (wrote_then (omega arith) (wrote_then (omega arith) c.put_bytes-k.ensures c.put_bytes-n.ensures) c.put_four_byte_number.ensures)

@@ -1,37 +1,33 @@
 -- `fragment_checks` meets its contract: one test after the other.
-use mathlib.Core.Path.{sym, ap}
-use native.Mathlib.Omega.{arith}
-use borrow.Author.Tests.{lt-leb, le-leb, lt-ltb, le-ltb}
-use lib.ListN.{length}
+use Rattle.std.proofs.Common.{rules}
 use Rattle.message_answer.specs.Answer.{require◌else◌⨾◌}
-use Rattle.chain_command.specs.Fragment.{fragment_command}
-use Rattle.chain_command.specs.declared.FragmentAnswer.TheVariants.{Fragment}
+use Rattle.chain_command.specs.Fragment.{fragment, fragment_command}
+use Rattle.chain_fragment_command.proofs.Parts.{short_part}
 use Rattle.chain_fragment_command.proofs.checks.fragment_checks.Goals as goal
 
-pub returns-then-size-gt-MAX_FRAGMENT : goal.returns-then-size-gt-MAX_FRAGMENT
+pub returns-then-size-gt-MAX_FRAGMENT-clause-answer : goal.returns-then-size-gt-MAX_FRAGMENT-clause-answer
 unfolding fragment_command require◌else◌⨾◌
-returns-then-size-gt-MAX_FRAGMENT c h = rw (lt-leb c.args.size 255 (omega (arith, c.if-size-gt-MAX_FRAGMENT.true)))
+returns-then-size-gt-MAX_FRAGMENT-clause-answer c h = search rules
 
-pub returns-then-field-gt-LONGEST_FIELD : goal.returns-then-field-gt-LONGEST_FIELD
+pub returns-then-field-gt-LONGEST_FIELD-clause-answer : goal.returns-then-field-gt-LONGEST_FIELD-clause-answer
 unfolding fragment_command require◌else◌⨾◌
-returns-then-field-gt-LONGEST_FIELD c h =
-    let a = c.args in
-    rw (le-leb a.size 255 (omega (arith, c.if-size-gt-MAX_FRAGMENT.false)), lt-leb (length a.field.now) 2066 (omega (arith, c.if-field-gt-LONGEST_FIELD.true)))
+returns-then-field-gt-LONGEST_FIELD-clause-answer c h = search rules
 
-pub returns-then-number-fragment_count : goal.returns-then-number-fragment_count
+pub returns-then-number-fragment_count-clause-answer : goal.returns-then-number-fragment_count-clause-answer
 unfolding fragment_command require◌else◌⨾◌
-returns-then-number-fragment_count c h =
-    let a = c.args in
-    rw (le-leb a.size 255 (omega (arith, c.if-size-gt-MAX_FRAGMENT.false)), le-leb (length a.field.now) 2066 (omega (arith, c.if-field-gt-LONGEST_FIELD.false)), sym c.fragment_count.ensures, le-ltb _ _ c.if-number-fragment_count.true)
+returns-then-number-fragment_count-clause-answer c h = search rules
 
-pub returns-then-needed-room : goal.returns-then-needed-room
-unfolding fragment_command require◌else◌⨾◌
-returns-then-needed-room c h =
-    let a = c.args in
-    rw (le-leb a.size 255 (omega (arith, c.if-size-gt-MAX_FRAGMENT.false)), le-leb (length a.field.now) 2066 (omega (arith, c.if-field-gt-LONGEST_FIELD.false)), sym c.fragment_count.ensures, lt-ltb _ _ c.if-number-fragment_count.false, sym (c.apdu_length-needed.ensures h), lt-leb _ _ c.if-needed-room.true)
+pub returns-then-needed-room-clause-answer : goal.returns-then-needed-room-clause-answer
+unfolding fragment_command require◌else◌⨾◌ fragment
+returns-then-needed-room-clause-answer c h =
+    let l = c.apdu_length-needed.ensures h in
+    search rules
 
-pub returns : goal.returns
-unfolding fragment_command require◌else◌⨾◌
-returns c h =
-    let a = c.args in
-    rw (le-leb a.size 255 (omega (arith, c.if-size-gt-MAX_FRAGMENT.false)), le-leb (length a.field.now) 2066 (omega (arith, c.if-field-gt-LONGEST_FIELD.false)), sym c.fragment_count.ensures, lt-ltb _ _ c.if-number-fragment_count.false, sym (c.apdu_length-needed.ensures h), le-leb _ _ c.if-needed-room.false) (ap Fragment (c.apdu_length-needed.ensures h))
+pub returns-clause-answer : goal.returns-clause-answer
+unfolding fragment_command require◌else◌⨾◌ fragment
+returns-clause-answer c h =
+    let l = c.apdu_length-needed.ensures h in
+    search rules
+
+pub returns-clause-short : goal.returns-clause-short
+returns-clause-short c = rw c.fragment_part-part.ensures.bytes (short_part _ _ _ c.if-size-gt-MAX_FRAGMENT.false)

@@ -1,6 +1,7 @@
 -- `fragment_part` meets its contract: the fragment starts within the field, so the product is small.
-use native.Mathlib.Numerals.{add-one}
+use Prim.Native.Nat.{◌*◌}
 use native.Mathlib.Omega.{arith}
+use Rattle.chain_parts.proofs.PartEnds.{ends_within}
 use Rattle.chain_fragment_command.proofs.Parts.{starts_in, number_in}
 use Rattle.chain_fragment_command.proofs.part.fragment_part.Goals as goal
 
@@ -16,5 +17,11 @@ part_end-end-requires c =
     let h = c.requires in
     omega (arith, starts_in a.field.now a.size a.number h.1 h.2 _ c.fragment_size-most.ensures)
 
-pub returns : goal.returns
-returns c = simp (c.part_end-end.ensures, c.fragment_size-most.ensures, c.fragment_count-count.ensures, add-one)
+pub slice_bounds-result-end : goal.slice_bounds-result-end
+slice_bounds-result-end c =
+    let a = c.args in
+    let h = c.requires in
+    omega (arith, c.part_end-end.ensures, ends_within a.field.now (a.number * c.fragment_size-most.result) c.fragment_size-most.result (omega (arith, starts_in a.field.now a.size a.number h.1 h.2 _ c.fragment_size-most.ensures)))
+
+pub overflow_add-result : goal.overflow_add-result
+overflow_add-result c = let a = c.args in let h = c.requires in omega (arith, number_in a.field.now a.size a.number h.1 h.2)

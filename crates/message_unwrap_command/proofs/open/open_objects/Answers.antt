@@ -21,7 +21,7 @@ slice_bounds-command_mac-end c =
 pub open_command-requires : goal.open_command-requires
 unfolding command_wanted
 open_command-requires c =
-    (c.requires.0, slices_sized c.args.field.now c.args.objects (command_wanted c.args.ins) c.requires.1 (omega arith))
+    (c.requires.0, slices_sized c.args.field.now c.args.objects (command_wanted c.args.header.ins) c.requires.1 (omega arith))
 
 pub returns : goal.returns
 unfolding command_mac command_input aes_ciphers

@@ -1,51 +1,35 @@
 -- `unwrap_response_checks` meets its contract: one test after the other.
-use borrow.Author.Tests.{lt-leb, le-leb, lt-ltb, le-ltb}
-use mathlib.Core.Path.{◌∙◌}
 use native.Mathlib.Omega.{arith}
+use Rattle.std.proofs.lemmas.Grind.{common_steps}
+use mathlib.Core.Path.{refl}
 use Rattle.octets.proofs.Tests.{outcome}
+use Rattle.session_rules.specs.Valid.{counts_as_open}
 use Rattle.session_rules.proofs.KeepsTheRules.{served_by_phase}
 use Rattle.message_answer.specs.Answer.{require◌else◌⨾◌}
 use Rattle.message_protocol.specs.Response.{unwrap_response_checks}
 use Rattle.message_unwrap_response.proofs.checks.unwrap_response_checks.Goals as goal
+use Rattle.message_unwrap_response.proofs.checks.unwrap_response_checks.Goals.{then-not-is_open-via-then-not-is_open, then-not-is_open-via-else-not-is_open+then-not-valid}
 
 pub returns-then-not-is_open : goal.returns-then-not-is_open
-unfolding unwrap_response_checks require◌else◌⨾◌
-returns-then-not-is_open c =
-    rw (served_by_phase _ c.requires ∙ outcome _ c.is_open.ensures c.if-not-is_open.true)
+unfolding unwrap_response_checks require◌else◌⨾◌ counts_as_open
+returns-then-not-is_open c = elim c.then-not-is_open.branch [
+  | then-not-is_open-via-then-not-is_open w ↦ rw (outcome _ c.is_open.ensures w.if-not-is_open.true) refl
+  | then-not-is_open-via-else-not-is_open+then-not-valid w ↦
+      rw (outcome _ c.is_open.ensures w.if-not-is_open.false) (rw (outcome _ w.valid.ensures w.if-not-valid.true) refl)
+]
 
 pub returns-then-not-is_turn : goal.returns-then-not-is_turn
 unfolding unwrap_response_checks require◌else◌⨾◌
-returns-then-not-is_turn c =
-    rw (
-      served_by_phase _ c.requires ∙ outcome _ c.is_open.ensures c.if-not-is_open.false,
-      outcome _ c.is_turn.ensures c.if-not-is_turn.true,
-    )
+returns-then-not-is_turn c = grind (arith, common_steps, served_by_phase)
 
 pub returns-then-n-eq0 : goal.returns-then-n-eq0
 unfolding unwrap_response_checks require◌else◌⨾◌
-returns-then-n-eq0 c =
-    rw (
-      served_by_phase _ c.requires ∙ outcome _ c.is_open.ensures c.if-not-is_open.false,
-      outcome _ c.is_turn.ensures c.if-not-is_turn.false,
-      le-ltb 0 c.args.n (omega (arith, c.if-n-eq0.true)),
-    )
+returns-then-n-eq0 c = grind (arith, common_steps, served_by_phase)
 
 pub returns-then-n-gt-MAX_RESPONSE_FIELD : goal.returns-then-n-gt-MAX_RESPONSE_FIELD
 unfolding unwrap_response_checks require◌else◌⨾◌
-returns-then-n-gt-MAX_RESPONSE_FIELD c =
-    rw (
-      served_by_phase _ c.requires ∙ outcome _ c.is_open.ensures c.if-not-is_open.false,
-      outcome _ c.is_turn.ensures c.if-not-is_turn.false,
-      lt-ltb 0 c.args.n (omega (arith, c.if-n-eq0.false)),
-      lt-leb c.args.n 16403 c.if-n-gt-MAX_RESPONSE_FIELD.true,
-    )
+returns-then-n-gt-MAX_RESPONSE_FIELD c = grind (arith, common_steps, served_by_phase)
 
 pub returns : goal.returns
 unfolding unwrap_response_checks require◌else◌⨾◌
-returns c =
-    rw (
-      served_by_phase _ c.requires ∙ outcome _ c.is_open.ensures c.if-not-is_open.false,
-      outcome _ c.is_turn.ensures c.if-not-is_turn.false,
-      lt-ltb 0 c.args.n (omega (arith, c.if-n-eq0.false)),
-      le-leb c.args.n 16403 c.if-n-gt-MAX_RESPONSE_FIELD.false,
-    )
+returns c = grind (arith, common_steps, served_by_phase)

@@ -6,7 +6,6 @@ use lib.Seq.{length-take-le}
 use Rattle.octets.specs.Bytes.{Bytes}
 use Rattle.message_permission.specs.Permission.{response_wanted}
 use Rattle.message_ciphers.specs.Aes.{aes_ciphers}
-use Rattle.message_answer.specs.Message.{status}
 use Rattle.message_protocol.specs.Response.{response_mac}
 use Rattle.message_result.specs.Results.{response_result}
 use Rattle.message_result.proofs.StageEnds.{stage_goes_on}
@@ -23,14 +22,14 @@ pub open_response-requires : goal.open_response-requires
 unfolding response_wanted
 open_response-requires c =
     let a = c.args in
-    (c.requires.0, slices_sized a.field.now a.objects (response_wanted (status a.sw1 a.sw2)) c.requires.1 (omega arith))
+    (c.requires.0, slices_sized a.field.now a.objects (response_wanted a.status) c.requires.1 (omega arith))
 
 pub returns : goal.returns
 unfolding response_mac aes_ciphers
 returns c =
     let a = c.args in
     let m = stage_goes_on a.session response_result payload_of a.out.now
-    (ap₂ (λ (full : Bytes) (r : Received). open_response a.session a.sw1 a.sw2 full r (length a.out.now))
+    (ap₂ (λ (full : Bytes) (r : Received). open_response a.session a.status full r (length a.out.now))
     (sym c.response_mac-full.ensures) (sym (slices_are a.field.now a.objects)))
     (c.open_response.ensures.result, c.open_response.ensures.output) in
     record { result = m.0; output = m.1 }

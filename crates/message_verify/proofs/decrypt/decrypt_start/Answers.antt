@@ -16,5 +16,5 @@ returns c =
     let decrypted = c.decrypt in
     let a = c.args in
     let h = c.requires in
-    let f = cbc_decrypt (inv_ciph a.size a.w.now) a.iv in
+    let f = cbc_decrypt (inv_ciph a.key.now.size a.key.now.words) a.iv in
     let size = length-take-le a.n a.text.now h.1 in record { text = start_changed f a.text.now _ a.n h.0 h.1 decrypted.ensures.buffer (omega (arith, decrypted.auto, size)); length = length_changed f a.text.now _ a.n h.0 h.1 decrypted.ensures.buffer (omega (arith, decrypted.auto, size)) }

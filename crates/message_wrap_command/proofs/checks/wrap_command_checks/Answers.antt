@@ -1,81 +1,43 @@
 -- `wrap_command_checks` meets its contract: one test after the other.
-use borrow.Author.Tests.{lt-leb, le-leb, lt-ltb, le-ltb}
-use mathlib.Core.Path.{sym, ◌∙◌}
 use native.Mathlib.Omega.{arith}
+use Rattle.std.proofs.lemmas.Grind.{common_steps}
+use mathlib.Core.Path.{refl}
 use Rattle.octets.proofs.Tests.{outcome}
+use Rattle.session_rules.specs.Valid.{counts_as_open}
 use Rattle.session_rules.proofs.KeepsTheRules.{served_by_phase}
 use Rattle.message_answer.specs.Answer.{require◌else◌⨾◌}
 use Rattle.message_protocol.specs.Command.{wrap_command_checks}
 use Rattle.message_wrap_command.proofs.checks.wrap_command_checks.Goals as goal
+use Rattle.message_wrap_command.proofs.checks.wrap_command_checks.Goals.{then-not-is_open-via-then-not-is_open, then-not-is_open-via-else-not-is_open+then-not-valid}
 
 pub returns-then-not-is_open : goal.returns-then-not-is_open
-unfolding wrap_command_checks require◌else◌⨾◌
-returns-then-not-is_open c =
-    rw (served_by_phase _ c.requires ∙ outcome _ c.is_open.ensures c.if-not-is_open.true)
+unfolding wrap_command_checks require◌else◌⨾◌ counts_as_open
+returns-then-not-is_open c = elim c.then-not-is_open.branch [
+  | then-not-is_open-via-then-not-is_open w ↦ rw (outcome _ c.is_open.ensures w.if-not-is_open.true) refl
+  | then-not-is_open-via-else-not-is_open+then-not-valid w ↦
+      rw (outcome _ c.is_open.ensures w.if-not-is_open.false) (rw (outcome _ w.valid.ensures w.if-not-valid.true) refl)
+]
 
 pub returns-then-not-is_turn : goal.returns-then-not-is_turn
 unfolding wrap_command_checks require◌else◌⨾◌
-returns-then-not-is_turn c =
-    rw (
-      served_by_phase _ c.requires ∙ outcome _ c.is_open.ensures c.if-not-is_open.false,
-      outcome _ c.is_turn.ensures c.if-not-is_turn.true,
-    )
+returns-then-not-is_turn c = grind (arith, common_steps, served_by_phase)
 
 pub returns-then-not-command_permitted : goal.returns-then-not-command_permitted
 unfolding wrap_command_checks require◌else◌⨾◌
-returns-then-not-command_permitted c =
-    rw (
-      served_by_phase _ c.requires ∙ outcome _ c.is_open.ensures c.if-not-is_open.false,
-      outcome _ c.is_turn.ensures c.if-not-is_turn.false,
-      outcome _ c.command_permitted.ensures c.if-not-command_permitted.true,
-    )
+returns-then-not-command_permitted c = grind (arith, common_steps, served_by_phase)
 
 pub returns-then-n-gt-MAX_COMMAND_DATA : goal.returns-then-n-gt-MAX_COMMAND_DATA
 unfolding wrap_command_checks require◌else◌⨾◌
-returns-then-n-gt-MAX_COMMAND_DATA c =
-    rw (
-      served_by_phase _ c.requires ∙ outcome _ c.is_open.ensures c.if-not-is_open.false,
-      outcome _ c.is_turn.ensures c.if-not-is_turn.false,
-      outcome _ c.command_permitted.ensures c.if-not-command_permitted.false,
-      lt-leb c.args.n 2047 c.if-n-gt-MAX_COMMAND_DATA.true,
-    )
+returns-then-n-gt-MAX_COMMAND_DATA c = grind (arith, common_steps, served_by_phase)
 
-pub returns-then-count-ge-COMMAND_LIMIT : goal.returns-then-count-ge-COMMAND_LIMIT
+pub returns-then-session-ge-COMMAND_LIMIT : goal.returns-then-session-ge-COMMAND_LIMIT
 unfolding wrap_command_checks require◌else◌⨾◌
-returns-then-count-ge-COMMAND_LIMIT c =
-    rw (
-      served_by_phase _ c.requires ∙ outcome _ c.is_open.ensures c.if-not-is_open.false,
-      outcome _ c.is_turn.ensures c.if-not-is_turn.false,
-      outcome _ c.command_permitted.ensures c.if-not-command_permitted.false,
-      le-leb c.args.n 2047 c.if-n-gt-MAX_COMMAND_DATA.false,
-      le-ltb c.args.session.count 65535 c.if-count-ge-COMMAND_LIMIT.true,
-    )
-
-pub command_length-needed-requires : goal.command_length-needed-requires
-command_length-needed-requires c = omega (arith, c.if-n-gt-MAX_COMMAND_DATA.false)
+returns-then-session-ge-COMMAND_LIMIT c = grind (arith, common_steps, served_by_phase)
 
 pub returns-then-needed-room : goal.returns-then-needed-room
 unfolding wrap_command_checks require◌else◌⨾◌
-returns-then-needed-room c =
-    rw (
-      served_by_phase _ c.requires ∙ outcome _ c.is_open.ensures c.if-not-is_open.false,
-      outcome _ c.is_turn.ensures c.if-not-is_turn.false,
-      outcome _ c.command_permitted.ensures c.if-not-command_permitted.false,
-      le-leb c.args.n 2047 c.if-n-gt-MAX_COMMAND_DATA.false,
-      lt-ltb c.args.session.count 65535 c.if-count-ge-COMMAND_LIMIT.false,
-      sym c.command_length-needed.ensures,
-      lt-leb c.command_length-needed.result c.args.room c.if-needed-room.true,
-    )
+returns-then-needed-room c = grind (arith, common_steps, served_by_phase)
 
 pub returns : goal.returns
 unfolding wrap_command_checks require◌else◌⨾◌
-returns c =
-    rw (
-      served_by_phase _ c.requires ∙ outcome _ c.is_open.ensures c.if-not-is_open.false,
-      outcome _ c.is_turn.ensures c.if-not-is_turn.false,
-      outcome _ c.command_permitted.ensures c.if-not-command_permitted.false,
-      le-leb c.args.n 2047 c.if-n-gt-MAX_COMMAND_DATA.false,
-      lt-ltb c.args.session.count 65535 c.if-count-ge-COMMAND_LIMIT.false,
-      sym c.command_length-needed.ensures,
-      le-leb c.command_length-needed.result c.args.room c.if-needed-room.false,
-    )
+returns c = grind (arith, common_steps, served_by_phase)

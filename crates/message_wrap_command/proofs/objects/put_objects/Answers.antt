@@ -11,7 +11,7 @@ use Rattle.message_encrypt.proofs.Room.{ciphertext_fits, length_written, command
 use Rattle.message_wrap_command.proofs.objects.put_objects.Goals as goal
 
 pub encrypt_text-n-requires : goal.encrypt_text-n-requires
-encrypt_text-n-requires c = ciphertext_fits (length c.args.«data».now) 128 (omega (arith, c.requires.1))
+encrypt_text-n-requires c = ciphertext_fits (length c.args.«data».now) 128 (omega (arith, c.requires.short))
 
 pub slice_bounds-text-end : goal.slice_bounds-text-end
 slice_bounds-text-end c =
@@ -19,7 +19,7 @@ slice_bounds-text-end c =
     let w = c.encrypt_text-n.ensures in
     let key : length a.session.sk_enc ≡ 32 = search (rules, c.well_formed) in
     let l = length_written a.session.suite a.session.sk_enc _ a.«data».now key w in
-    let fit = ciphertext_fits (length a.«data».now) 128 (omega (arith, c.requires.1)) in
+    let fit = ciphertext_fits (length a.«data».now) 128 (omega (arith, c.requires.short)) in
     omega (arith, w.end, l, fit, c.encrypt_text-n.auto)
 
 pub slice_bounds-put_command_objects-end : goal.slice_bounds-put_command_objects-end
@@ -32,8 +32,8 @@ put_command_objects-requires c =
     let w = c.encrypt_text-n.ensures in
     let key : length a.session.sk_enc ≡ 32 = search (rules, c.well_formed) in
     let l = length_written a.session.suite a.session.sk_enc _ a.«data».now key w in
-    let fit = ciphertext_fits (length a.«data».now) 128 (omega (arith, c.requires.1)) in
-    rw (wrote_start w) (omega (arith, l, fit), omega (arith, command_room a.session.suite a.session.sk_enc _ a.«data».now key w a.le, c.requires.2))
+    let fit = ciphertext_fits (length a.«data».now) 128 (omega (arith, c.requires.short)) in
+    rw (wrote_start w) (omega (arith, l, fit), omega (arith, command_room a.session.suite a.session.sk_enc _ a.«data».now key w a.le, c.requires.fits))
 
 pub returns : goal.returns
 unfolding command_ciphertext aes_ciphers
@@ -42,4 +42,4 @@ returns c =
     let w = c.encrypt_text-n.ensures in
     let key : length a.session.sk_enc ≡ 32 = search (rules, c.well_formed) in
     let p = rw (wrote_start w) at c.put_command_objects.ensures in
-    record { objects = rw c.command_counter-counter.ensures at p; room = omega (arith, p.end, command_room a.session.suite a.session.sk_enc _ a.«data».now key w a.le, c.requires.2) }
+    record { objects = rw c.command_counter-counter.ensures at p; room = omega (arith, p.end, command_room a.session.suite a.session.sk_enc _ a.«data».now key w a.le, c.requires.fits) }

@@ -11,7 +11,7 @@ use Rattle.message_encrypt.proofs.Room.{ciphertext_fits, length_written, respons
 use Rattle.message_wrap_response.proofs.objects.put_objects.Goals as goal
 
 pub encrypt_text-n-requires : goal.encrypt_text-n-requires
-encrypt_text-n-requires c = ciphertext_fits (length c.args.«data».now) 1024 (omega (arith, c.requires.1))
+encrypt_text-n-requires c = ciphertext_fits (length c.args.«data».now) 1024 (omega (arith, c.requires.short))
 
 pub slice_bounds-text-end : goal.slice_bounds-text-end
 slice_bounds-text-end c =
@@ -19,7 +19,7 @@ slice_bounds-text-end c =
     let w = c.encrypt_text-n.ensures in
     let key : length a.session.sk_enc ≡ 32 = search (rules, c.well_formed) in
     let l = length_written a.session.suite a.session.sk_enc _ a.«data».now key w in
-    let fit = ciphertext_fits (length a.«data».now) 1024 (omega (arith, c.requires.1)) in
+    let fit = ciphertext_fits (length a.«data».now) 1024 (omega (arith, c.requires.short)) in
     omega (arith, w.end, l, fit, c.encrypt_text-n.auto)
 
 pub slice_bounds-put_response_objects-end : goal.slice_bounds-put_response_objects-end
@@ -32,8 +32,8 @@ put_response_objects-requires c =
     let w = c.encrypt_text-n.ensures in
     let key : length a.session.sk_enc ≡ 32 = search (rules, c.well_formed) in
     let l = length_written a.session.suite a.session.sk_enc _ a.«data».now key w in
-    let fit = ciphertext_fits (length a.«data».now) 1024 (omega (arith, c.requires.1)) in
-    rw (wrote_start w) (omega (arith, l, fit), omega (arith, response_room a.session.suite a.session.sk_enc _ a.«data».now key w a.sw1 a.sw2, c.requires.2))
+    let fit = ciphertext_fits (length a.«data».now) 1024 (omega (arith, c.requires.short)) in
+    rw (wrote_start w) (omega (arith, l, fit), omega (arith, response_room a.session.suite a.session.sk_enc _ a.«data».now key w a.status.sw1 a.status.sw2, c.requires.fits))
 
 pub returns : goal.returns
 unfolding response_ciphertext aes_ciphers
@@ -42,4 +42,4 @@ returns c =
     let w = c.encrypt_text-n.ensures in
     let key : length a.session.sk_enc ≡ 32 = search (rules, c.well_formed) in
     let p = rw (wrote_start w) at c.put_response_objects.ensures in
-    record { objects = rw c.response_counter-counter.ensures at p; room = omega (arith, p.end, response_room a.session.suite a.session.sk_enc _ a.«data».now key w a.sw1 a.sw2, c.requires.2) }
+    record { objects = rw c.response_counter-counter.ensures at p; room = omega (arith, p.end, response_room a.session.suite a.session.sk_enc _ a.«data».now key w a.status.sw1 a.status.sw2, c.requires.fits) }

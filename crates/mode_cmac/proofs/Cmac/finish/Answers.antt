@@ -7,13 +7,13 @@ use Rattle.mode_cmac.specs.declared.Cmac.{Cmac}
 use Rattle.mode_cmac.specs.Running.{finish}
 use Rattle.mode_cmac.proofs.Cmac.finish.Goals as goal
 
-pub returns-then-len-lt16 : goal.returns-then-len-lt16
+pub returns-then-self-lt16 : goal.returns-then-self-lt16
 unfolding finish
-returns-then-len-lt16 c =
+returns-then-self-lt16 c =
     let a = c.args in
-    simp (lt-leb 16 _ c.if-len-lt16.true)
+    simp (lt-leb 16 _ c.if-self-lt16.true)
     (c.encrypt_block.ensures
-    ∙ ap (ciph a.size a.w.now)
+    ∙ ap (ciph a.key.now.size a.key.now.words)
     (c.xor_block.ensures
     ∙ ap₂ ◌xor◌ (ap (λ (s : Cmac). s.chain) c.add-padded.ensures) c.subkey2.ensures))
 
@@ -21,6 +21,6 @@ pub returns : goal.returns
 unfolding finish
 returns c =
     let a = c.args in
-    simp (le-leb 16 _ c.if-len-lt16.false)
+    simp (le-leb 16 _ c.if-self-lt16.false)
     (c.encrypt_block-2.ensures
-    ∙ ap (ciph a.size a.w.now) (c.xor_block-2.ensures ∙ ap (λ k. a.self.chain xor k) c.subkey1.ensures))
+    ∙ ap (ciph a.key.now.size a.key.now.words) (c.xor_block-2.ensures ∙ ap (λ k. a.self.chain xor k) c.subkey1.ensures))

@@ -6,10 +6,10 @@ use Rattle.mode_cmac.specs.Running.{flush}
 use Rattle.mode_cmac.proofs.BlockByBlock.{state}
 use Rattle.mode_cmac.proofs.Cmac.flush.Goals as goal
 
-pub returns-then-len-ge16 : goal.returns-then-len-ge16
+pub returns-then-self-ge16 : goal.returns-then-self-ge16
 unfolding flush
-returns-then-len-ge16 c = simp (le-leb 16 _ c.if-len-ge16.true) (ap (λ (x : Bytes). state x 0) c.encrypt_block.ensures)
+returns-then-self-ge16 c = simp (le-leb 16 _ c.if-self-ge16.true) (ap (λ (x : Bytes). state x 0) c.encrypt_block.ensures)
 
 pub returns : goal.returns
 unfolding flush
-returns c = simp (lt-leb 16 _ c.if-len-ge16.false)
+returns c = simp (lt-leb 16 _ c.if-self-ge16.false)
