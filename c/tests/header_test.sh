@@ -1,6 +1,7 @@
 #!/bin/sh
 # header_test.sh - pivsm.h compiles alone, as C99 and as C++; the archive's global functions are those that it
-# declares; and each prototype is that of the exported function in crates/pivsm.
+# declares; each prototype is that of the exported function in crates/pivsm; and the archive needs only memcpy and
+# memset from outside, so that a program without a C library brings no more.
 #
 # usage: header_test.sh ARCHIVE
 set -e
@@ -35,4 +36,10 @@ sed -E 's/^[^ ]+ ([^(]*)\(.*/\1/' "$work/header" | sort >"$work/names"
 test -s "$work/names"
 diff "$work/header" "$work/code"
 diff "$work/names" "$work/symbols"
+
+nm --undefined-only "$archive" | awk '$1 == "U" { print $2 }' | sort -u >"$work/needed"
+if grep -v -x -e memcpy -e memset "$work/needed"; then
+    echo "$archive needs the names above from outside" >&2
+    exit 1
+fi
 echo "pivsm.h: C99 and C++; $(wc -l <"$work/names") calls, as in the archive and in the crates"

@@ -61,7 +61,9 @@ pub fn read_object(
     if !wanted.allowed(after, tag) {
         return Err(Breach::new(Rule::Tag, tag, at));
     }
-    let field = read_length(bytes, from).ok_or(Breach::new(Rule::LengthForm, tag, from))?;
+    let Some(field) = read_length(bytes, from) else {
+        return Err(Breach::new(Rule::LengthForm, tag, from));
+    };
     if !field.is_shortest() {
         return Err(Breach::new(Rule::LengthForm, tag, from));
     }

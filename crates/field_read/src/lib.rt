@@ -51,7 +51,10 @@ pub fn read_field(wanted: Wanted, field: &[u8]) -> Result<Objects, FieldError>
     let mut reader = Reader::new(field, 0);
     // The reader is no Iterator: what may stand next depends on the place of the object before.
     while reader.has_more() {
-        let object = reader.next(wanted, place)?;
+        let read = reader.next(wanted, place);
+        let Ok(object) = read else {
+            return Err(FieldError::from(read.unwrap_err()));
+        };
         objects = noted(objects, object);
         place = wanted.second.rank(object.tag);
     }

@@ -108,12 +108,14 @@ impl Cmac {
     fn absorb_block(self, key: &ExpandedKey, data: &[u8]) -> Cmac
         ensures { result ≡ absorb (ciph key.now.size key.now.words) self «data».now }
     {
-        if self.len % 16 == 0 && data.len() == 16 {
+        if data.len() == 16 {
             let flushed = self.flush(key);
-            return Cmac {
-                chain: xor_block(flushed.chain, array_at(data, 0)),
-                len: 16,
-            };
+            if flushed.len == 0 {
+                return Cmac {
+                    chain: xor_block(flushed.chain, array_at(data, 0)),
+                    len: 16,
+                };
+            }
         }
         self.absorb_bytes(key, data)
     }
@@ -122,8 +124,8 @@ impl Cmac {
     pub fn absorb(self, key: &ExpandedKey, data: &[u8]) -> Cmac
         ensures { result ≡ absorb (ciph key.now.size key.now.words) self «data».now }
     {
-        let room = 16 - self.len % 16;
-        let (first, rest) = data.split_at(data.len().min(room));
+        let filled = if self.len > 15 { 0 } else { self.len };
+        let (first, rest) = data.split_at(data.len().min(16 - filled));
         let mut state = self.absorb_block(key, first);
         for block in rest.chunks(16) {
             state = state.absorb_block(key, block);

@@ -12,13 +12,12 @@ use Rattle.octets.specs.Bytes.{Bytes, zeros}
 use Rattle.octets.specs.Write.{over, Wrote}
 use Rattle.octets.proofs.Writing.{wrote_all, over_full}
 use Rattle.aes.specs.Aes.{ciph}
-use Rattle.aes_key_expansion.specs.ExpandedKey.{expanded_key}
 use Rattle.aes_key_expansion.specs.KeyExpansion.{schedule}
 use Rattle.aes_key_expansion.specs.declared.KeySize.{KeySize}
 use Rattle.aes_key_expansion.specs.declared.ExpandedKey.{ExpandedKey}
 use Rattle.mode_cbc.specs.Whole.{whole, outcome, if_whole}
 use Rattle.mode_cbc.specs.declared.PartialBlock.{PartialBlock}
-use Rattle.std.specs.Prelude.{Option, Some, None, option_map, Result, Ok, Err}
+use Rattle.std.specs.Prelude.{Some, None, Result, Ok, Err}
 use Rattle.mode_cbc.proofs.Outcomes.{done_whole, done_changed, partial_not_whole, partial_kept}
 use Rattle.mode_cmac.specs.Cmac.{cmac}
 use Rattle.mode_cmac.specs.Running.{start, absorb, finish}
@@ -38,27 +37,12 @@ key_fits n size e = by (eqb n 16) refl (eqb n 32) refl
         let z : ◌≡◌ {A = ℕ} 0 1 = cc in
         omega arith
 
--- ---- a key made ready, or none
+-- ---- a key made ready has its size and its schedule
 
-module _ (key : Bytes) where
-  pub no_key : expanded key ≡ None → key_size (length key) ≡ None
-  unfolding expanded
-  no_key e = go (key_size (length key)) e
-    where
-      go : (o : Option KeySize) → option_map (λ size. expanded_key size (over (zeros 32) key)) o ≡ None → o ≡ None
-      go None e = refl
-      go (Some size) e = let z : ◌≡◌ {A = ℕ} 0 1 = cc in let n : ⊥ = omega arith in absurd n
-
-  pub some_key : (k : ExpandedKey) → expanded key ≡ Some k → (key_size (length key) ≡ Some k.size) × (k.words ≡ schedule k.size (over (zeros 32) key))
-  unfolding expanded
-  some_key k e = go (key_size (length key)) e
-    where
-      go : (o : Option KeySize) → option_map (λ size. expanded_key size (over (zeros 32) key)) o ≡ Some k
-          → (o ≡ Some k.size) × (k.words ≡ schedule k.size (over (zeros 32) key))
-      go None e = let z : ◌≡◌ {A = ℕ} 0 1 = cc in let n : ⊥ = omega arith in absurd n
-      go (Some size) e =
-          let same : expanded_key size (over (zeros 32) key) ≡ k = cc in
-          (ap (λ (x : ExpandedKey). Some x.size) same, sym (ap (λ (x : ExpandedKey). x.words) same) ∙ ap (λ (x : ExpandedKey). schedule x.size (over (zeros 32) key)) same)
+pub some_key : (key : Bytes) (size : KeySize) (k : ExpandedKey) → key_size (length key) ≡ Some size → k ≡ expanded size key
+    → (key_size (length key) ≡ Some k.size) × (k.words ≡ schedule k.size (over (zeros 32) key))
+some_key key size k e made =
+    (e ∙ ap (λ (x : ExpandedKey). Some x.size) (sym made), ap (λ (x : ExpandedKey). x.words) made ∙ ap (λ (x : ExpandedKey). schedule x.size (over (zeros 32) key)) (sym made))
 
 module _ (key : Bytes) (lengths : Bool) (result : KeySize → Bytes → Bytes) (held : Bytes) where
   pub bad_key : key_size (length key) ≡ None → (12 ≡ answer key lengths) × (held ≡ buffer key lengths result held)

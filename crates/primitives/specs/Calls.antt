@@ -1,5 +1,5 @@
 -- The calls of c/include/primitives.h: AES, CBC and CMAC under a key of 16 or 32 bytes.
-use Rattle.std.specs.Prelude.{Bool, ◌&&◌, ◌++◌, ℕ, eqb, length, Option, Some, None, option_map}
+use Rattle.std.specs.Prelude.{Bool, ◌&&◌, ◌++◌, ℕ, eqb, length, Option, Some, None}
 use Rattle.octets.specs.Bytes.{Bytes, zeros}
 use Rattle.std.specs.Prelude.{if◌then◌else◌}
 use Rattle.octets.specs.Write.{over}
@@ -16,9 +16,9 @@ use Rattle.mode_cmac.specs.Cmac.{cmac}
 unfoldable pub key_size : ℕ → Option KeySize
 key_size n = if eqb n 16 then Some Aes128 else (if eqb n 32 then Some Aes256 else None)
 
--- the key, which stands at the start of 32 bytes, made ready for the rounds
-unfoldable pub expanded : Bytes → Option ExpandedKey
-expanded key = option_map (λ size. expanded_key size (over (zeros 32) key)) (key_size (length key))
+-- a key of that size, which stands at the start of 32 bytes, made ready for the rounds
+abbrev pub expanded : KeySize → Bytes → ExpandedKey
+expanded size key = expanded_key size (over (zeros 32) key)
 
 -- as long as a block
 abbrev pub block_long : Bytes → Bool

@@ -1,7 +1,7 @@
 // AES, CBC and CMAC for C (c/include/primitives.h): for the benchmark and the comparison with another library.
 #![tactic(auto)]
 
-ghost use Rattle.std.specs.Prelude.{◌≡◌};
+ghost use Rattle.std.specs.Prelude.{◌≡◌, ◌≤◌, length};
 ghost use Rattle.primitives.specs.Calls.{key_size, expanded, aes_answer, aes_encrypt_buffer, aes_decrypt_buffer, cbc_answer, cbc_encrypt_buffer, cbc_decrypt_buffer, cmac_answer, cmac_buffer};
 
 use aes_key_expansion::{ExpandedKey, KeySize};
@@ -27,26 +27,27 @@ fn key_size(len: usize) -> Option<KeySize>
     }
 }
 
-// The key made ready for the rounds, where its length is a key's.
-fn expanded(key: &[u8]) -> Option<ExpandedKey>
-    ensures { result ≡ expanded key.now }
+// A key of that size made ready for the rounds. Each call tests the length of its block, IV or MAC first: refused for that, it makes no schedule.
+fn expanded(size: KeySize, key: &[u8]) -> ExpandedKey
+    requires { length key.now ≤ 32 }
+    ensures { result ≡ expanded size key.now }
 {
-    let size = key_size(key.len())?;
     let mut bytes = [0u8; 32];
     put_bytes(&mut bytes, 0, key);
-    Some(ExpandedKey::new(size, bytes))
+    ExpandedKey::new(size, bytes)
 }
 
 pub fn pivsm_aes_encrypt(key: &[u8], block: &mut [u8]) -> u32
     ensures answer { result ≡ aes_answer key.now block.old }
     ensures buffer { block.new ≡ aes_encrypt_buffer key.now block.old }
 {
-    let Some(key) = expanded(key) else {
+    let Some(size) = key_size(key.len()) else {
         return BAD_KEY_LENGTH;
     };
     if block.len() != 16 {
         return MALFORMED;
     }
+    let key = expanded(size, key);
     let result = aes::encrypt_block(&key, array_at(block, 0));
     put_bytes(block, 0, &result);
     DONE
@@ -56,12 +57,13 @@ pub fn pivsm_aes_decrypt(key: &[u8], block: &mut [u8]) -> u32
     ensures answer { result ≡ aes_answer key.now block.old }
     ensures buffer { block.new ≡ aes_decrypt_buffer key.now block.old }
 {
-    let Some(key) = expanded(key) else {
+    let Some(size) = key_size(key.len()) else {
         return BAD_KEY_LENGTH;
     };
     if block.len() != 16 {
         return MALFORMED;
     }
+    let key = expanded(size, key);
     let result = aes::decrypt_block(&key, array_at(block, 0));
     put_bytes(block, 0, &result);
     DONE
@@ -71,12 +73,13 @@ pub fn pivsm_cbc_encrypt(key: &[u8], iv: &[u8], data: &mut [u8]) -> u32
     ensures answer { result ≡ cbc_answer key.now iv.now «data».old }
     ensures buffer { «data».new ≡ cbc_encrypt_buffer key.now iv.now «data».old }
 {
-    let Some(key) = expanded(key) else {
+    let Some(size) = key_size(key.len()) else {
         return BAD_KEY_LENGTH;
     };
     if iv.len() != 16 {
         return MALFORMED;
     }
+    let key = expanded(size, key);
     match mode_cbc::encrypt(&key, array_at(iv, 0), data) {
         Ok(()) => DONE,
         Err(_) => MALFORMED,
@@ -87,12 +90,13 @@ pub fn pivsm_cbc_decrypt(key: &[u8], iv: &[u8], data: &mut [u8]) -> u32
     ensures answer { result ≡ cbc_answer key.now iv.now «data».old }
     ensures buffer { «data».new ≡ cbc_decrypt_buffer key.now iv.now «data».old }
 {
-    let Some(key) = expanded(key) else {
+    let Some(size) = key_size(key.len()) else {
         return BAD_KEY_LENGTH;
     };
     if iv.len() != 16 {
         return MALFORMED;
     }
+    let key = expanded(size, key);
     match mode_cbc::decrypt(&key, array_at(iv, 0), data) {
         Ok(()) => DONE,
         Err(_) => MALFORMED,
@@ -104,12 +108,13 @@ pub fn pivsm_cmac(key: &[u8], head: &[u8], rest: &[u8], mac: &mut [u8]) -> u32
     ensures answer { result ≡ cmac_answer key.now mac.old }
     ensures buffer { mac.new ≡ cmac_buffer key.now head.now rest.now mac.old }
 {
-    let Some(key) = expanded(key) else {
+    let Some(size) = key_size(key.len()) else {
         return BAD_KEY_LENGTH;
     };
     if mac.len() != 16 {
         return MALFORMED;
     }
+    let key = expanded(size, key);
     let result = Cmac::start()
         .absorb(&key, head)
         .absorb(&key, rest)

@@ -40,6 +40,6 @@ closed_at side suite =
 abbrev pub closed : Session → Session
 closed s = closed_at s.side s.suite
 
--- what stands where there is no session, at 11, 12 and 16
+-- what stands where there is no session, at 11 and 12; an answer with 16 has none
 abbrev pub no_session : Side → Session
 no_session side = closed_at side Cs2

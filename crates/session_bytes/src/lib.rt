@@ -25,7 +25,7 @@ const REST: u16 = SIZE as u16 - 2;
 
 const VERSION: u8 = 0x01;
 
-// Saves a session: refusals 1 and 6. It is for callers that keep a Session, and nothing in the library calls it: the calls from C hold a
+// Saves a session: refusals 1 and 6. It is for callers that keep a Session, and for the openings from C: the other calls from C hold a
 // session as bytes, and put the next one back by put_session where they have shown the room and the rules.
 #[tactic(auto, unfolding(crate::specs::Saving::encoding, crate::specs::Saving::encoded_in))]
 pub fn encode(session: Session, out: &mut [u8]) -> Result<(), Refusal>

@@ -4,11 +4,16 @@ ghost use Rattle.session_rules.specs.ZeroBytes.{all_zero, keys_end, keys_zero, m
 
 use session::Session;
 
-#[tactic(auto, unfolding(crate::specs::ZeroBytes::all_zero))]
+// By the library's `all` testing the rules of a CS2 session took 1.6 times the instructions.
 pub fn all_zero(bytes: &[u8]) -> bool
     ensures { result ≡ all_zero bytes.now }
 {
-    bytes.iter().all(|b| *b == 0)
+    for b in bytes {
+        if *b != 0 {
+            return false;
+        }
+    }
+    true
 }
 
 // Whether each key has the suite's length, and zeros behind it.

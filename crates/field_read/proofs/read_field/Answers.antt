@@ -5,7 +5,7 @@ use Prim.Native.Nat.{ℕ, ◌-◌, ◌<◌}
 use native.Mathlib.Omega.{arith}
 use borrow.Author.Tests.{ltb-true, ltb-false}
 use lib.ListN.{length}
-use Rattle.std.proofs.lemmas.Grind.{common_steps}
+use Rattle.std.specs.Prelude.{Err}
 use Rattle.octets.specs.Bytes.{Bytes}
 use Rattle.field_expected.specs.Wanted.{rank}
 use Rattle.field_object.specs.Object.{read_object}
@@ -13,6 +13,7 @@ use Rattle.field_object.specs.Step.{index_after}
 use Rattle.field_read.specs.Field.{none, walk, read_field}
 use Rattle.field_object.specs.declared.DataObject.{DataObject}
 use Rattle.field_read.specs.declared.Objects.{Objects}
+use Rattle.field_read.specs.Reader.{moved}
 use Rattle.field_read.specs.declared.reader.Reader.{Reader}
 use Rattle.field_object.proofs.Inversion.{stands, later, rank_most, some_byte}
 use Rattle.field_read.proofs.Walk.{walk_end, walk_object, walk_breach}
@@ -33,22 +34,20 @@ loop-reader-init c =
       ap₂ (λ (o : Objects) (i : ℕ). walk 4 a.wanted a.field.now o 0 i) no_object (ap (λ (r : Reader). r.at) e),
     )
 
-pub returns-in_err-object : goal.returns-in_err-object
-returns-in_err-object c =
+pub returns-in_default : goal.returns-in_default
+returns-in_default c =
     let a = c.args in
     let L = c.loop-reader in
     let xs = a.field.now in
-    let read = ap (λ (ys : Bytes). read_object a.wanted L.place ys L.reader.at) (sym L.invariant.3) ∙ sym c.in_err-object.ensures.read in
+    let read = ap (λ (ys : Bytes). read_object a.wanted L.place ys L.reader.at) (sym L.invariant.3) ∙ sym c.next-read.ensures.read ∙ c.unwrap_err.ensures in
     let more : L.reader.at < length xs = omega (arith, ap length L.invariant.3, ltb-true _ _ (sym c.has_more.ensures ∙ c.loop-reader-test.true)) in
-    let e = sym L.invariant.4 ∙ walk_breach a.wanted xs L.objects L.place L.reader.at L.invariant.0 _ (omega arith) more read in
-    let f = c.from_residual.ensures in
-    grind (arith, common_steps, e, f)
+    ap Err c.from.ensures ∙ sym (walk_breach a.wanted xs L.objects L.place L.reader.at L.invariant.0 _ (omega arith) more read) ∙ L.invariant.4
 
 pub noted-objects-requires : goal.noted-objects-requires
 noted-objects-requires c =
     let a = c.args in
     let L = c.loop-reader in
-    let s = stands a.wanted L.place L.reader.field.now L.reader.at _ (sym c.in_ok-object.ensures.read) in
+    let s = stands a.wanted L.place L.reader.field.now L.reader.at _ (sym c.next-read.ensures.read ∙ c.in-Ok.is) in
     omega (
       arith,
       some_byte a.wanted _ s.n s.fit,
@@ -62,10 +61,10 @@ unfolding index_after
 loop-reader-smaller c =
     let a = c.args in
     let L = c.loop-reader in
-    let s = stands a.wanted L.place L.reader.field.now L.reader.at _ (sym c.in_ok-object.ensures.read) in
+    let s = stands a.wanted L.place L.reader.field.now L.reader.at _ (sym c.next-read.ensures.read ∙ c.in-Ok.is) in
     omega (
       arith,
-      ap (λ (r : Reader). r.at) c.in_ok-object.ensures.reader,
+      ap (λ (r : Reader). r.at) (c.next-read.ensures.reader ∙ ap (moved L.reader) c.in-Ok.is),
       ap (λ (d : DataObject). d.next) s.same,
       s.inside,
       ap length L.invariant.3,
@@ -78,9 +77,9 @@ loop-reader-preserved c =
     let L = c.loop-reader in
     let xs = a.field.now in
     let k = L.invariant.0 in
-    let d = c.in_ok-object.object in
-    let moved = c.in_ok-object.ensures.reader in
-    let read = ap (λ (ys : Bytes). read_object a.wanted L.place ys L.reader.at) (sym L.invariant.3) ∙ sym c.in_ok-object.ensures.read in
+    let d = c.in-Ok.object in
+    let after_next = c.next-read.ensures.reader ∙ ap (moved L.reader) c.in-Ok.is in
+    let read = ap (λ (ys : Bytes). read_object a.wanted L.place ys L.reader.at) (sym L.invariant.3) ∙ sym c.next-read.ensures.read ∙ c.in-Ok.is in
     let more : L.reader.at < length xs = omega (arith, ap length L.invariant.3, ltb-true _ _ (sym c.has_more.ensures ∙ c.loop-reader-test.true)) in
     let s = stands a.wanted L.place xs L.reader.at _ read in
     let place = c.rank-place.ensures in
@@ -89,8 +88,8 @@ loop-reader-preserved c =
       k - 1,
       omega (arith, place, after),
       omega (arith, place, rank_most a.wanted.second d.tag),
-      ap (λ (r : Reader). r.field.now) moved ∙ L.invariant.3,
-      ap (λ (r : Reader). walk (k - 1) a.wanted xs c.noted-objects.result c.rank-place.result r.at) moved
+      ap (λ (r : Reader). r.field.now) after_next ∙ L.invariant.3,
+      ap (λ (r : Reader). walk (k - 1) a.wanted xs c.noted-objects.result c.rank-place.result r.at) after_next
           ∙ ap₂ (λ (o : Objects) (r : ℕ). walk (k - 1) a.wanted xs o r d.next) c.noted-objects.ensures place
           ∙ sym (walk_object a.wanted xs L.objects L.place L.reader.at k d (omega arith) more read)
           ∙ L.invariant.4,

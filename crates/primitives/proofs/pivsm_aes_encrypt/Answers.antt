@@ -5,7 +5,7 @@ use borrow.Author.Tests.{ne_eqb}
 use Rattle.aes.specs.Aes.{ciph, aes}
 use lib.ListN.{length}
 use Rattle.primitives.specs.Calls.{block_long}
-use Rattle.primitives.proofs.Results.{no_key, some_key, bad_key, malformed, block_done}
+use Rattle.primitives.proofs.Results.{key_fits, some_key, bad_key, malformed, block_done}
 use Rattle.primitives.proofs.pivsm_aes_encrypt.Goals as goal
 
 pub returns : goal.returns
@@ -13,9 +13,9 @@ unfolding aes
 returns c =
     let a = c.args in
     let b = a.block.now in
-    let k = some_key a.key.now c.in-Some.key (sym c.expanded.ensures ∙ c.in-Some.is) in
+    let k = some_key a.key.now c.in-Some.size c.expanded-key.result (sym c.key_size.ensures ∙ c.in-Some.is) c.expanded-key.ensures in
     let l : length c.encrypt_block-result.result ≡ 16 = search rules in
-    let m = block_done a.key.now b c.in-Some.key.size k.0 c.if-block-ne16.false ciph k.1 c.array_at.ensures c.encrypt_block-result.ensures l
+    let m = block_done a.key.now b c.expanded-key.result.size k.0 c.if-block-ne16.false ciph k.1 c.array_at.ensures c.encrypt_block-result.ensures l
     c.put_bytes.ensures in
     record { answer = m.0; buffer = m.1 }
 
@@ -23,13 +23,15 @@ pub returns-in_default : goal.returns-in_default
 returns-in_default c =
     let a = c.args in
     let b = a.block.now in
-    let m = bad_key a.key.now (block_long b) (λ s k. aes s k b) b (no_key a.key.now (sym c.expanded.ensures ∙ c.in_default.is)) in
+    let m = bad_key a.key.now (block_long b) (λ s k. aes s k b) b (sym c.key_size.ensures ∙ c.in_default.is) in
     record { answer = m.0; buffer = m.1 }
 
 pub returns-then-block-ne16 : goal.returns-then-block-ne16
 returns-then-block-ne16 c =
     let a = c.args in
     let b = a.block.now in
-    let k = some_key a.key.now c.in-Some.key (sym c.expanded.ensures ∙ c.in-Some.is) in
-    let m = malformed a.key.now (block_long b) (λ s k. aes s k b) b c.in-Some.key.size k.0 (ne_eqb _ _ c.if-block-ne16.true) in
+    let m = malformed a.key.now (block_long b) (λ s k. aes s k b) b c.in-Some.size (sym c.key_size.ensures ∙ c.in-Some.is) (ne_eqb _ _ c.if-block-ne16.true) in
     record { answer = m.0; buffer = m.1 }
+
+pub expanded-key-requires : goal.expanded-key-requires
+expanded-key-requires c = key_fits _ c.in-Some.size (sym c.key_size.ensures ∙ c.in-Some.is)

@@ -9,7 +9,7 @@ use Rattle.mode_cbc.specs.Cbc.{cbc_encrypt}
 use mathlib.Core.Bool.{◌&&◌}
 use Rattle.mode_cbc.specs.Whole.{whole}
 use Rattle.primitives.specs.Calls.{block_long}
-use Rattle.primitives.proofs.Results.{no_key, some_key, bad_key, malformed, cbc_done, cbc_partial}
+use Rattle.primitives.proofs.Results.{key_fits, some_key, bad_key, malformed, cbc_done, cbc_partial}
 use Rattle.primitives.proofs.pivsm_cbc_encrypt.Goals as goal
 
 abbrev cbc : KeySize → List Bytes → Bytes → Bytes → Bytes
@@ -19,8 +19,8 @@ pub returns-in-Ok : goal.returns-in-Ok
 unfolding aes
 returns-in-Ok c =
     let a = c.args in
-    let k = some_key a.key.now c.in-Some.key (sym c.expanded.ensures ∙ c.in-Some.is) in
-    let m = cbc_done a.key.now a.iv.now a.«data».now c.in-Some.key.size k.0 c.if-iv-ne16.false cbc k.1 c.array_at.ensures
+    let k = some_key a.key.now c.in-Some.size c.expanded-key.result (sym c.key_size.ensures ∙ c.in-Some.is) c.expanded-key.ensures in
+    let m = cbc_done a.key.now a.iv.now a.«data».now c.expanded-key.result.size k.0 c.if-iv-ne16.false cbc k.1 c.array_at.ensures
     c.encrypt.ensures.answer c.encrypt.ensures.buffer c.in-Ok.is in
     record { answer = m.0; buffer = m.1 }
 
@@ -28,8 +28,8 @@ pub returns-in-Err : goal.returns-in-Err
 unfolding aes
 returns-in-Err c =
     let a = c.args in
-    let k = some_key a.key.now c.in-Some.key (sym c.expanded.ensures ∙ c.in-Some.is) in
-    let m = cbc_partial a.key.now a.iv.now a.«data».now c.in-Some.key.size k.0 c.if-iv-ne16.false cbc k.1 c.array_at.ensures
+    let k = some_key a.key.now c.in-Some.size c.expanded-key.result (sym c.key_size.ensures ∙ c.in-Some.is) c.expanded-key.ensures in
+    let m = cbc_partial a.key.now a.iv.now a.«data».now c.expanded-key.result.size k.0 c.if-iv-ne16.false cbc k.1 c.array_at.ensures
     c.encrypt.ensures.answer c.encrypt.ensures.buffer c.in-Err.is in
     record { answer = m.0; buffer = m.1 }
 
@@ -38,14 +38,16 @@ returns-in_default c =
     let a = c.args in
     let xs = a.«data».now in
     let m = bad_key a.key.now (block_long a.iv.now && whole xs) (λ s k. cbc_encrypt (aes s k) a.iv.now xs) xs
-    (no_key a.key.now (sym c.expanded.ensures ∙ c.in_default.is)) in
+    (sym c.key_size.ensures ∙ c.in_default.is) in
     record { answer = m.0; buffer = m.1 }
 
 pub returns-then-iv-ne16 : goal.returns-then-iv-ne16
 returns-then-iv-ne16 c =
     let a = c.args in
     let xs = a.«data».now in
-    let k = some_key a.key.now c.in-Some.key (sym c.expanded.ensures ∙ c.in-Some.is) in
-    let m = malformed a.key.now (block_long a.iv.now && whole xs) (λ s k. cbc_encrypt (aes s k) a.iv.now xs) xs c.in-Some.key.size k.0
+    let m = malformed a.key.now (block_long a.iv.now && whole xs) (λ s k. cbc_encrypt (aes s k) a.iv.now xs) xs c.in-Some.size (sym c.key_size.ensures ∙ c.in-Some.is)
     (simp (ne_eqb _ _ c.if-iv-ne16.true)) in
     record { answer = m.0; buffer = m.1 }
+
+pub expanded-key-requires : goal.expanded-key-requires
+expanded-key-requires c = key_fits _ c.in-Some.size (sym c.key_size.ensures ∙ c.in-Some.is)

@@ -5,15 +5,13 @@ use native.Mathlib.Omega.{arith}
 use lib.Seq.{take_all}
 use Rattle.octets.specs.Bytes.{Bytes, ◌xor◌}
 use Rattle.aes.specs.Aes.{ciph}
-use Rattle.mode_cmac.specs.declared.Cmac.{Cmac}
-use Rattle.mode_cmac.proofs.BlockByBlock.{flush_begins, whole_block}
+use Rattle.mode_cmac.proofs.BlockByBlock.{whole_block}
 use Rattle.mode_cmac.proofs.Cmac.absorb_block.Goals as goal
 
-pub returns-then-data-eq16 : goal.returns-then-data-eq16
-returns-then-data-eq16 c =
+pub returns-then-flushed-eq0 : goal.returns-then-flushed-eq0
+returns-then-flushed-eq0 c =
     let a = c.args in
     let f = ciph a.key.now.size a.key.now.words in
     let t = c.flush-flushed in
-    whole_block f a.self t.result a.«data».now c.xor_block.result t.ensures (search rules)
-    (ap (λ (s : Cmac). s.len) t.ensures ∙ flush_begins f a.self c.if-self-eq0.true) c.if-data-eq16.true
+    whole_block f a.self t.result a.«data».now c.xor_block.result t.ensures (search rules) c.if-flushed-eq0.true c.if-data-eq16.true
     (c.xor_block.ensures ∙ ap (λ (b : Bytes). t.result.chain xor b) (c.array_at.ensures ∙ take_all 16 a.«data».now (omega arith)))
