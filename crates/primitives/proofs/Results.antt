@@ -42,7 +42,8 @@ key_fits n size e = by (eqb n 16) refl (eqb n 32) refl
 pub some_key : (key : Bytes) (size : KeySize) (k : ExpandedKey) → key_size (length key) ≡ Some size → k ≡ expanded size key
     → (key_size (length key) ≡ Some k.size) × (k.words ≡ schedule k.size (over (zeros 32) key))
 some_key key size k e made =
-    (e ∙ ap (λ (x : ExpandedKey). Some x.size) (sym made), ap (λ (x : ExpandedKey). x.words) made ∙ ap (λ (x : ExpandedKey). schedule x.size (over (zeros 32) key)) (sym made))
+    let words = ap (λ (x : ExpandedKey). schedule x.size (over (zeros 32) key)) (sym made) in
+    (e ∙ ap (λ (x : ExpandedKey). Some x.size) (sym made), ap (λ (x : ExpandedKey). x.words) made ∙ words)
 
 module _ (key : Bytes) (lengths : Bool) (result : KeySize → Bytes → Bytes) (held : Bytes) where
   pub bad_key : key_size (length key) ≡ None → (12 ≡ answer key lengths) × (held ≡ buffer key lengths result held)

@@ -13,7 +13,8 @@ unfolding inv_aes
 returns c =
     let a = c.args in
     let b = a.block.now in
-    let k = some_key a.key.now c.in-Some.size c.expanded-key.result (sym c.key_size.ensures ∙ c.in-Some.is) c.expanded-key.ensures in
+    let known = sym c.key_size.ensures ∙ c.in-Some.is in
+    let k = some_key a.key.now c.in-Some.size c.expanded-key.result known c.expanded-key.ensures in
     let l : length c.decrypt_block-result.result ≡ 16 = search rules in
     let m = block_done a.key.now b c.expanded-key.result.size k.0 c.if-block-ne16.false inv_ciph k.1 c.array_at.ensures c.decrypt_block-result.ensures l
     c.put_bytes.ensures in
@@ -30,7 +31,8 @@ pub returns-then-block-ne16 : goal.returns-then-block-ne16
 returns-then-block-ne16 c =
     let a = c.args in
     let b = a.block.now in
-    let m = malformed a.key.now (block_long b) (λ s k. inv_aes s k b) b c.in-Some.size (sym c.key_size.ensures ∙ c.in-Some.is) (ne_eqb _ _ c.if-block-ne16.true) in
+    let known = sym c.key_size.ensures ∙ c.in-Some.is in
+    let m = malformed a.key.now (block_long b) (λ s k. inv_aes s k b) b c.in-Some.size known (ne_eqb _ _ c.if-block-ne16.true) in
     record { answer = m.0; buffer = m.1 }
 
 pub expanded-key-requires : goal.expanded-key-requires

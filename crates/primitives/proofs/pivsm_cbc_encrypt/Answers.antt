@@ -19,7 +19,8 @@ pub returns-in-Ok : goal.returns-in-Ok
 unfolding aes
 returns-in-Ok c =
     let a = c.args in
-    let k = some_key a.key.now c.in-Some.size c.expanded-key.result (sym c.key_size.ensures ∙ c.in-Some.is) c.expanded-key.ensures in
+    let known = sym c.key_size.ensures ∙ c.in-Some.is in
+    let k = some_key a.key.now c.in-Some.size c.expanded-key.result known c.expanded-key.ensures in
     let m = cbc_done a.key.now a.iv.now a.«data».now c.expanded-key.result.size k.0 c.if-iv-ne16.false cbc k.1 c.array_at.ensures
     c.encrypt.ensures.answer c.encrypt.ensures.buffer c.in-Ok.is in
     record { answer = m.0; buffer = m.1 }
@@ -28,7 +29,8 @@ pub returns-in-Err : goal.returns-in-Err
 unfolding aes
 returns-in-Err c =
     let a = c.args in
-    let k = some_key a.key.now c.in-Some.size c.expanded-key.result (sym c.key_size.ensures ∙ c.in-Some.is) c.expanded-key.ensures in
+    let known = sym c.key_size.ensures ∙ c.in-Some.is in
+    let k = some_key a.key.now c.in-Some.size c.expanded-key.result known c.expanded-key.ensures in
     let m = cbc_partial a.key.now a.iv.now a.«data».now c.expanded-key.result.size k.0 c.if-iv-ne16.false cbc k.1 c.array_at.ensures
     c.encrypt.ensures.answer c.encrypt.ensures.buffer c.in-Err.is in
     record { answer = m.0; buffer = m.1 }
@@ -45,7 +47,8 @@ pub returns-then-iv-ne16 : goal.returns-then-iv-ne16
 returns-then-iv-ne16 c =
     let a = c.args in
     let xs = a.«data».now in
-    let m = malformed a.key.now (block_long a.iv.now && whole xs) (λ s k. cbc_encrypt (aes s k) a.iv.now xs) xs c.in-Some.size (sym c.key_size.ensures ∙ c.in-Some.is)
+    let known = sym c.key_size.ensures ∙ c.in-Some.is in
+    let m = malformed a.key.now (block_long a.iv.now && whole xs) (λ s k. cbc_encrypt (aes s k) a.iv.now xs) xs c.in-Some.size known
     (simp (ne_eqb _ _ c.if-iv-ne16.true)) in
     record { answer = m.0; buffer = m.1 }
 

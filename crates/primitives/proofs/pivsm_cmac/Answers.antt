@@ -16,7 +16,8 @@ unfolding aes
 returns c =
     let a = c.args in
     let size : length a.mac.now ≡ 16 = c.if-mac-ne16.false in
-    let k = some_key a.key.now c.in-Some.size c.expanded-key.result (sym c.key_size.ensures ∙ c.in-Some.is) c.expanded-key.ensures in
+    let known = sym c.key_size.ensures ∙ c.in-Some.is in
+    let k = some_key a.key.now c.in-Some.size c.expanded-key.result known c.expanded-key.ensures in
     let s = c.expanded-key.result.size in
     let m = done a.key.now (block_long a.mac.now) (λ s k. cmac (aes s k) (a.head.now ++ a.rest.now)) a.mac.now s
     k.0 (eq-eqb _ _ size)
